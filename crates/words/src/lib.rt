@@ -3,16 +3,17 @@ ghost use mathlib.Core.Path.{_≡_};
 ghost use Prim.Native.Nat.{_^_, _<_};
 ghost use Rattle.words.specs.Words.{word-bits, half-bits, upper-half, lower-half, joined};
 
-// The bits of a word that count.
+// The bits of a word that count: its two halves, joined again.
 pub fn word_bits(x: u32) -> u32
     ensures value { λ r. ⌜ r ≡ word-bits x ⌝ }
     ensures small { λ r. ⌜ r < 2 ^ 30 ⌝ }
+    ensures halves { λ r. ⌜ r ≡ joined (upper-half x) (lower-half x) ⌝ }
 {
     x % 0x4000_0000
 }
 
 // The bits of a half that count.
-pub fn half_bits(x: u32) -> u32
+fn half_bits(x: u32) -> u32
     ensures value { λ r. ⌜ r ≡ half-bits x ⌝ }
     ensures small { λ r. ⌜ r < 2 ^ 15 ⌝ }
 {
