@@ -1,0 +1,34 @@
+-- The words of a line. Assumes nothing.
+use mathlib.Core.Path.{_≡_}
+use mathlib.Core.Bool.{cond}
+use mathlib.Core.List.{List, [], _∷_, _++_, map}
+use Prim.Native.Nat.{ℕ, _<_}
+use denote.Ref.{RefT}
+use lib.Dec.{eqb}
+use lib.ListN.{length}
+use Rattle.std.specs.shelf.Lists.{All}
+
+-- a word that has begun, if it has any byte
+abbrev pub begun : List ℕ → List (List ℕ)
+begun [] = []
+begun (c ∷ w) = (c ∷ w) ∷ []
+
+-- the words of what is left of a line, after the bytes w of a word that has begun:
+-- a # (35) ends the word and the line, and a space (32) ends the word
+abbrev pub words-after : List ℕ → List ℕ → List (List ℕ)
+words-after w [] = begun w
+words-after w (c ∷ cs) = cond (eqb c 35) (begun w) (cond (eqb c 32) (begun w ++ words-after [] cs) (words-after (w ++ c ∷ []) cs))
+
+abbrev pub words-of : List ℕ → List (List ℕ)
+words-of line = words-after [] line
+
+-- what slices hold
+unfoldable pub texts : List (RefT (List ℕ)) → List (List ℕ)
+texts ts = map (λ t. t .now) ts
+
+abbrev pub Plain : ℕ → Type 0
+Plain c = (c ≡ 32 → ⊥) × (c ≡ 35 → ⊥)
+
+-- one byte or more, and no space or # among them
+abbrev pub Word : List ℕ → Type 0
+Word w = (0 < length w) × All Plain w

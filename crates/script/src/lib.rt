@@ -1,0 +1,19 @@
+// The console's script: what a line says, what it does to the memory, and what it answers.
+mod answer;
+mod line;
+mod number;
+mod reason;
+mod session;
+mod statement;
+mod verb;
+
+pub use answer::Answer;
+pub use line::split_words;
+pub use number::read_number;
+pub use reason::Reason;
+pub use session::Session;
+pub use statement::Statement;
+pub use statement::read_statement;
+
+#[cfg(test)]
+mod tests;

@@ -1,0 +1,100 @@
+// What statements do: the console's memory, made by the first of them.
+ghost use mathlib.Core.Bool.{cond};
+ghost use mathlib.Core.Path.{_≡_};
+ghost use Prim.Native.Nat.{ℕ};
+ghost use Rattle.std.specs.declared.option.Option.the-variants.{None};
+ghost use Rattle.std.specs.Results.{isOk};
+ghost use Rattle.std.specs.Vec.{made};
+ghost use Rattle.stores.specs.Word.{numbers, row};
+ghost use Rattle.script.specs.declared.statement.Statement.the-variants as st;
+ghost use Rattle.script.specs.Session.{memory-of, fetch-said, put-said, answered, left, answered-on, left-on};
+use crate::answer::Answer;
+use crate::reason::Reason;
+use crate::statement::Statement;
+use std::alloc::AllocError;
+use std::alloc::Global;
+use store::Fault;
+use store::Store;
+use stores::WordStore;
+use stores::WordStoreStore;
+
+// What a put answers.
+fn said(answer: Result<(), Fault>) -> Answer
+    ensures { λ r. ⌜ r ≡ put-said answer ⌝ }
+{
+    match answer {
+        Ok(()) => Answer::Done,
+        Err(fault) => Answer::Fault(fault),
+    }
+}
+
+// What a fetch answers.
+fn told(answer: Result<u32, Fault>) -> Answer
+    ensures { λ r. ⌜ r ≡ fetch-said answer ⌝ }
+{
+    match answer {
+        Ok(word) => Answer::Word(word),
+        Err(fault) => Answer::Fault(fault),
+    }
+}
+
+#[derive(Drop)]
+pub struct Session {
+    store: Option<WordStore>,
+}
+
+impl Session {
+    // A session with no memory yet.
+    pub fn new() -> Session
+        ensures { λ r. ⌜ memory-of r ≡ None ⌝ }
+    {
+        Session { store: None }
+    }
+
+    // Does a statement. Only want of memory for a new memory is an outer error, and it leaves everything.
+    pub fn perform(
+        &mut self,
+        heap: Global,
+        statement: Statement,
+    ) -> Result<Result<Answer, Reason>, AllocError>
+        ensures answer { λ r. ⌜ made r (λ a. a ≡ answered (memory-of (now (self .entry))) statement) ⌝ }
+        ensures after { λ r. ⌜ memory-of (now (self .exit)) ≡ cond (isOk r) (left (memory-of (now (self .entry))) statement) (memory-of (now (self .entry))) ⌝ }
+    {
+        if let Statement::Memory(size) = statement {
+            return self.make(heap, size);
+        }
+        match &mut self.store {
+            Some(store) => Ok(on_store(store, statement)),
+            None => Ok(Err(Reason::NoMemory)),
+        }
+    }
+
+    fn make(&mut self, heap: Global, size: u32) -> Result<Result<Answer, Reason>, AllocError>
+        ensures answer { λ r. ⌜ made r (λ a. a ≡ answered (memory-of (now (self .entry))) (st.Memory size)) ⌝ }
+        ensures after { λ r. ⌜ memory-of (now (self .exit)) ≡ cond (isOk r) (left (memory-of (now (self .entry))) (st.Memory size)) (memory-of (now (self .entry))) ⌝ }
+    {
+        if self.store.is_some() {
+            return Ok(Err(Reason::SecondMemory));
+        }
+        let memory = vec![in heap; 0u32; size as usize]?;
+        self.store = Some(WordStore::new(memory));
+        Ok(Ok(Answer::Done))
+    }
+}
+
+fn on_store(store: &mut WordStore, statement: Statement) -> Result<Answer, Reason>
+    ensures answer { λ r. ⌜ r ≡ answered-on (numbers (now (store .entry))) statement ⌝ }
+    ensures after { λ _. ⌜ numbers (now (store .exit)) ≡ left-on (numbers (now (store .entry))) statement ⌝ }
+{
+    match statement {
+        Statement::Memory(_) => Err(Reason::SecondMemory),
+        Statement::Raw(index, value) => match store.replace_number(index, value) {
+            Some(_) => Ok(Answer::Done),
+            None => Err(Reason::OutOfRange),
+        },
+        Statement::Count => Ok(Answer::Count(store.count())),
+        Statement::Fetch(cell) => Ok(told(store.fetch(cell))),
+        Statement::Put(cell, word) => Ok(said(store.put_whole(cell, word))),
+        Statement::PutHalf(cell, half, value) => Ok(said(store.put_half(cell, half, value))),
+    }
+}
