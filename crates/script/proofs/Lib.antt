@@ -1,4 +1,5 @@
-pub mod Texts
 pub mod Digits
 pub mod Prefixes
+pub mod Spaced
+pub mod Texts
 pub mod Words

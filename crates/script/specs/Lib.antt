@@ -1,4 +1,6 @@
 pub mod Line
 pub mod Number
-pub mod Statement
+pub mod Play
 pub mod Session
+pub mod Statement
+pub mod Transcript

@@ -2,14 +2,18 @@
 mod answer;
 mod line;
 mod number;
+mod problem;
 mod reason;
 mod session;
 mod statement;
+mod transcript;
 mod verb;
 
 pub use answer::Answer;
 pub use line::split_words;
 pub use number::read_number;
+pub use problem::Problem;
+pub use problem::ProblemDisplay;
 pub use reason::Reason;
 pub use session::Session;
 pub use statement::Statement;

@@ -1,16 +1,23 @@
 // What statements do: the console's memory, made by the first of them.
 ghost use mathlib.Core.Bool.{cond};
+ghost use mathlib.Core.Logic.{_⊎_};
 ghost use mathlib.Core.Path.{_≡_};
 ghost use Prim.Native.Nat.{ℕ};
 ghost use Rattle.std.specs.declared.option.Option.the-variants.{None};
-ghost use Rattle.std.specs.Results.{isOk};
+ghost use Rattle.std.specs.Results.{isOk, Cases};
 ghost use Rattle.std.specs.Vec.{made};
 ghost use Rattle.stores.specs.Word.{numbers, row};
 ghost use Rattle.script.specs.declared.statement.Statement.the-variants as st;
+ghost use Rattle.script.specs.Line.{texts};
+ghost use Rattle.script.specs.Play.{text-of, said-by, left-by, line-text-of, line-played, line-left};
 ghost use Rattle.script.specs.Session.{memory-of, fetch-said, put-said, answered, left, answered-on, left-on};
 use crate::answer::Answer;
+use crate::line::split_words;
+use crate::problem::Problem;
 use crate::reason::Reason;
 use crate::statement::Statement;
+use crate::statement::read_statement;
+use crate::transcript::write_line;
 use std::alloc::AllocError;
 use std::alloc::Global;
 use store::Fault;
@@ -66,6 +73,48 @@ impl Session {
         match &mut self.store {
             Some(store) => Ok(on_store(store, statement)),
             None => Ok(Err(Reason::NoMemory)),
+        }
+    }
+
+    // Plays the `number`th line of a script: the transcript's line, or nothing where it has no words.
+    pub fn play_line(
+        &mut self,
+        heap: Global,
+        number: u64,
+        line: &[u8],
+    ) -> Result<Result<Option<Vec<u8>>, Problem>, AllocError>
+        ensures answer { λ r. ⌜ made r (λ a. line-text-of a ≡ line-played (memory-of (now (self .entry))) number (now (line .entry))) ⌝ }
+        ensures after { λ r. ⌜ Cases r (λ _. memory-of (now (self .exit)) ≡ line-left (memory-of (now (self .entry))) (now (line .entry))) (λ _. (memory-of (now (self .exit)) ≡ memory-of (now (self .entry))) ⊎ (memory-of (now (self .exit)) ≡ line-left (memory-of (now (self .entry))) (now (line .entry)))) ⌝ }
+    {
+        let words = split_words(heap, line)?;
+        if words.is_empty() {
+            return Ok(Ok(None));
+        }
+        match self.play_words(heap, words.as_slice())? {
+            Ok(text) => Ok(Ok(Some(text))),
+            Err(reason) => Ok(Err(Problem {
+                line: number,
+                reason,
+            })),
+        }
+    }
+
+    // Does the statement that words make, and writes the transcript's line.
+    fn play_words(
+        &mut self,
+        heap: Global,
+        words: &[&[u8]],
+    ) -> Result<Result<Vec<u8>, Reason>, AllocError>
+        ensures answer { λ r. ⌜ made r (λ a. text-of a ≡ said-by (memory-of (now (self .entry))) (texts (now (words .entry)))) ⌝ }
+        ensures after { λ r. ⌜ Cases r (λ _. memory-of (now (self .exit)) ≡ left-by (memory-of (now (self .entry))) (texts (now (words .entry)))) (λ _. (memory-of (now (self .exit)) ≡ memory-of (now (self .entry))) ⊎ (memory-of (now (self .exit)) ≡ left-by (memory-of (now (self .entry))) (texts (now (words .entry))))) ⌝ }
+    {
+        let statement = match read_statement(words) {
+            Ok(statement) => statement,
+            Err(reason) => return Ok(Err(reason)),
+        };
+        match self.perform(heap, statement)? {
+            Ok(answer) => Ok(Ok(write_line(heap, words, answer)?)),
+            Err(reason) => Ok(Err(reason)),
         }
     }
 

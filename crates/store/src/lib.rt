@@ -13,6 +13,7 @@ mod address;
 mod fault;
 mod half;
 mod probe;
+mod text;
 
 pub use address::CellAddress;
 pub use fault::Fault;
@@ -21,6 +22,7 @@ pub use fault::FaultPartialEq;
 pub use half::Half;
 pub use probe::probe_half;
 pub use probe::probe_whole;
+pub use text::FaultDisplay;
 
 pub trait Store {
     // the row of cells that the store means

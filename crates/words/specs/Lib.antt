@@ -1,1 +1,2 @@
+pub mod Octal
 pub mod Words

@@ -3,6 +3,11 @@ ghost use mathlib.Core.Path.{_≡_};
 ghost use Prim.Native.Nat.{_^_, _<_};
 ghost use Rattle.words.specs.Words.{word-bits, half-bits, upper-half, lower-half, joined};
 
+mod octal;
+
+pub use octal::OctalWord;
+pub use octal::OctalWordDisplay;
+
 // The bits of a word that count: its two halves, joined again.
 pub fn word_bits(x: u32) -> u32
     ensures value { λ r. ⌜ r ≡ word-bits x ⌝ }

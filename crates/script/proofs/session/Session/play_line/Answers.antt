@@ -1,0 +1,20 @@
+use borrow.Author.Needs.{needs}
+use Rattle.script.specs.Play.{line-played, line-left}
+use Rattle.script.proofs.Texts.{length-texts}
+use Rattle.script.proofs.session.Session.play_line.Needs as need
+
+pub returns-then-is-empty : need.returns-then-is-empty
+unfolding line-played line-left
+returns-then-is-empty c = search (needs, length-texts)
+
+pub returns-in-Ok : need.returns-in-Ok
+unfolding line-played line-left
+returns-in-Ok c = search (needs, length-texts)
+
+pub returns : need.returns
+unfolding line-played line-left
+returns c = search (needs, length-texts)
+
+pub returns-in-Break-text : need.returns-in-Break-text
+unfolding line-played line-left
+returns-in-Break-text c = search (needs, length-texts)
