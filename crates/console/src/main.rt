@@ -50,3 +50,6 @@ fn main(rt: LibcRuntime) -> Result<(), AnyError> {
     }
     played
 }
+
+#[cfg(test)]
+mod tests;

@@ -1,6 +1,8 @@
 // The words of a line: what stands between spaces, before any `#`.
 ghost use mathlib.Core.Path.{_≡_};
+ghost use mathlib.Core.Bool.{_||_};
 ghost use mathlib.Core.List.{_++_};
+ghost use lib.Dec.{eqb};
 ghost use lib.ListN.{length, getD, take, drop};
 ghost use Prim.Native.Nat.{_≤_, _<_};
 ghost use Rattle.std.specs.Of.Vec.{vec-items};
@@ -10,6 +12,13 @@ ghost use Rattle.script.specs.Line.{begun, words-of, texts, Word};
 use std::alloc::AllocError;
 use std::alloc::Global;
 
+// A space or a `#` ends a word.
+fn ends_word(byte: u8) -> bool
+    ensures { λ r. ⌜ r ≡ (eqb byte 32 || eqb byte 35) ⌝ }
+{
+    matches!(byte, b' ' | b'#')
+}
+
 // How many bytes at the front are those of a word.
 fn word_len(line: &[u8]) -> usize
     ensures within { λ r. ⌜ r ≤ length (now (line .entry)) ⌝ }
@@ -17,7 +26,7 @@ fn word_len(line: &[u8]) -> usize
     ensures some { λ r. ⌜ (0 < length (now (line .entry)) → (getD (now (line .entry)) 0 0 ≡ 32 → ⊥) → (getD (now (line .entry)) 0 0 ≡ 35 → ⊥) → 0 < r) ⌝ }
 {
     for (i, byte) in line.iter().enumerate() {
-        if matches!(*byte, b' ' | b'#') {
+        if ends_word(*byte) {
             return i;
         }
     }

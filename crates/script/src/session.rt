@@ -9,7 +9,7 @@ ghost use Rattle.std.specs.Vec.{made};
 ghost use Rattle.stores.specs.Word.{numbers, row};
 ghost use Rattle.script.specs.declared.statement.Statement.the-variants as st;
 ghost use Rattle.script.specs.Line.{texts};
-ghost use Rattle.script.specs.Play.{text-of, said-by, left-by, line-text-of, line-played, line-left};
+ghost use Rattle.script.specs.Play.{text-of, said-by, left-by, line-text-of, numbered, line-played, line-left};
 ghost use Rattle.script.specs.Session.{memory-of, fetch-said, put-said, answered, left, answered-on, left-on};
 use crate::answer::Answer;
 use crate::line::split_words;
@@ -42,6 +42,19 @@ fn told(answer: Result<u32, Fault>) -> Answer
     match answer {
         Ok(word) => Answer::Word(word),
         Err(fault) => Answer::Fault(fault),
+    }
+}
+
+// A line's text; what is wrong with a line is told with its number.
+fn at_line(number: u64, text: Result<Vec<u8>, Reason>) -> Result<Option<Vec<u8>>, Problem>
+    ensures { λ r. ⌜ line-text-of r ≡ numbered number (text-of text) ⌝ }
+{
+    match text {
+        Ok(text) => Ok(Some(text)),
+        Err(reason) => Err(Problem {
+            line: number,
+            reason,
+        }),
     }
 }
 
@@ -90,13 +103,8 @@ impl Session {
         if words.is_empty() {
             return Ok(Ok(None));
         }
-        match self.play_words(heap, words.as_slice())? {
-            Ok(text) => Ok(Ok(Some(text))),
-            Err(reason) => Ok(Err(Problem {
-                line: number,
-                reason,
-            })),
-        }
+        let text = self.play_words(heap, words.as_slice())?;
+        Ok(at_line(number, text))
     }
 
     // Does the statement that words make, and writes the transcript's line.
@@ -137,13 +145,17 @@ fn on_store(store: &mut WordStore, statement: Statement) -> Result<Answer, Reaso
 {
     match statement {
         Statement::Memory(_) => Err(Reason::SecondMemory),
-        Statement::Raw(index, value) => match store.replace_number(index, value) {
+        Statement::Raw { index, value } => match store.replace_number(index, value) {
             Some(_) => Ok(Answer::Done),
             None => Err(Reason::OutOfRange),
         },
         Statement::Count => Ok(Answer::Count(store.count())),
-        Statement::Fetch(cell) => Ok(told(store.fetch(cell))),
-        Statement::Put(cell, word) => Ok(said(store.put_whole(cell, word))),
-        Statement::PutHalf(cell, half, value) => Ok(said(store.put_half(cell, half, value))),
+        Statement::Fetch(address) => Ok(told(store.fetch(address))),
+        Statement::Put { address, word } => Ok(said(store.put_whole(address, word))),
+        Statement::PutHalf {
+            address,
+            half,
+            value,
+        } => Ok(said(store.put_half(address, half, value))),
     }
 }

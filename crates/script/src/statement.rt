@@ -13,18 +13,33 @@ use crate::verb::Verb;
 use crate::verb::is;
 use crate::verb::read_verb;
 use store::CellAddress;
+use store::CellAddressDebug;
+use store::CellAddressPartialEq;
 use store::Half;
+use store::HalfDebug;
+use store::HalfPartialEq;
 
 const MOST_NUMBERS: u32 = 262_144;
 
-#[derive(Clone, Copy)]
+#[derive(Clone, Copy, Debug, PartialEq)]
 pub enum Statement {
+    // a word store over so many numbers
     Memory(u32),
-    Raw(u32, u32),
+    Raw {
+        index: u32,
+        value: u32,
+    },
     Count,
     Fetch(CellAddress),
-    Put(CellAddress, u32),
-    PutHalf(CellAddress, Half, u32),
+    Put {
+        address: CellAddress,
+        word: u32,
+    },
+    PutHalf {
+        address: CellAddress,
+        half: Half,
+        value: u32,
+    },
 }
 
 // Are there just so many words?
@@ -81,7 +96,7 @@ fn raw(args: &[&[u8]]) -> Result<Statement, Reason>
     takes(args, 2)?;
     let index = read_number(nth(args, 0))?;
     let value = read_number(nth(args, 1))?;
-    Ok(Statement::Raw(index, value))
+    Ok(Statement::Raw { index, value })
 }
 
 // count
@@ -97,8 +112,8 @@ fn fetch(args: &[&[u8]]) -> Result<Statement, Reason>
     ensures { λ r. ⌜ r ≡ fetch-of (texts (now (args .entry))) ⌝ }
 {
     takes(args, 1)?;
-    let cell = read_number(nth(args, 0))?;
-    Ok(Statement::Fetch(CellAddress(cell)))
+    let address = CellAddress(read_number(nth(args, 0))?);
+    Ok(Statement::Fetch(address))
 }
 
 // put CELL WORD
@@ -106,9 +121,9 @@ fn put(args: &[&[u8]]) -> Result<Statement, Reason>
     ensures { λ r. ⌜ r ≡ put-of (texts (now (args .entry))) ⌝ }
 {
     takes(args, 2)?;
-    let cell = read_number(nth(args, 0))?;
+    let address = CellAddress(read_number(nth(args, 0))?);
     let word = read_number(nth(args, 1))?;
-    Ok(Statement::Put(CellAddress(cell), word))
+    Ok(Statement::Put { address, word })
 }
 
 // put-half CELL upper|lower HALF
@@ -116,10 +131,14 @@ fn put_half(args: &[&[u8]]) -> Result<Statement, Reason>
     ensures { λ r. ⌜ r ≡ put-half-of (texts (now (args .entry))) ⌝ }
 {
     takes(args, 3)?;
-    let cell = read_number(nth(args, 0))?;
+    let address = CellAddress(read_number(nth(args, 0))?);
     let half = read_half(nth(args, 1))?;
     let value = read_number(nth(args, 2))?;
-    Ok(Statement::PutHalf(CellAddress(cell), half, value))
+    Ok(Statement::PutHalf {
+        address,
+        half,
+        value,
+    })
 }
 
 fn read_arguments(verb: Verb, args: &[&[u8]]) -> Result<Statement, Reason>

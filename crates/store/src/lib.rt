@@ -16,10 +16,14 @@ mod probe;
 mod text;
 
 pub use address::CellAddress;
+pub use address::CellAddressDebug;
+pub use address::CellAddressPartialEq;
 pub use fault::Fault;
 pub use fault::FaultDebug;
 pub use fault::FaultPartialEq;
 pub use half::Half;
+pub use half::HalfDebug;
+pub use half::HalfPartialEq;
 pub use probe::probe_half;
 pub use probe::probe_whole;
 pub use text::FaultDisplay;

@@ -7,10 +7,6 @@ pub returns-then-is-empty : need.returns-then-is-empty
 unfolding line-played line-left
 returns-then-is-empty c = search (needs, length-texts)
 
-pub returns-in-Ok : need.returns-in-Ok
-unfolding line-played line-left
-returns-in-Ok c = search (needs, length-texts)
-
 pub returns : need.returns
 unfolding line-played line-left
 returns c = search (needs, length-texts)
