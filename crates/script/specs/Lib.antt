@@ -3,4 +3,5 @@ pub mod Number
 pub mod Play
 pub mod Session
 pub mod Statement
+pub mod Then
 pub mod Transcript

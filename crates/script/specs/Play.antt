@@ -1,6 +1,7 @@
 -- What comes of a line of a script: nothing, if it has no words; a line of the transcript; or what is wrong with it.
 use mathlib.Core.Bool.{cond}
 use mathlib.Core.List.{List}
+use mathlib.Core.Path.{_≡_}
 use Prim.Native.Nat.{ℕ}
 use lib.Dec.{eqb}
 use lib.ListN.{length}
@@ -19,16 +20,12 @@ use Rattle.script.specs.declared.statement.Statement.{Statement}
 use Rattle.script.specs.Line.{words-of}
 use Rattle.script.specs.Session.{answered, left}
 use Rattle.script.specs.Statement.{statement-of}
-use Rattle.script.specs.Transcript.{line-text}
+use Rattle.script.specs.Then.{then}
+use Rattle.script.specs.Transcript.{spaced, line-text}
 
 abbrev pub text-of : Result (Vec ℕ Global) Reason → Result (List ℕ) Reason
 text-of (Ok v) = Ok (vec-items v)
 text-of (Err e) = Err e
-
--- the next step of what may have failed
-abbrev pub then : {X Y : Type 0} → Result X Reason → (X → Result Y Reason) → Result Y Reason
-then (Ok x) f = f x
-then (Err e) f = Err e
 
 -- the transcript's line for the statement that words make, or why there is none
 unfoldable pub said-by : Option (List ℕ) → List (List ℕ) → Result (List ℕ) Reason
@@ -57,3 +54,7 @@ line-played memory number line = cond (eqb (length (words-of line)) 0) (Ok None)
 
 unfoldable pub line-left : Option (List ℕ) → List ℕ → Option (List ℕ)
 line-left memory line = cond (eqb (length (words-of line)) 0) memory (left-by memory (words-of line))
+
+-- what stands left of the arrow in the transcript is a line that comes to the same
+abbrev pub Plays-again : List ℕ → Type 0
+Plays-again line = (memory : Option (List ℕ)) (number : ℕ) → line-played memory number (spaced (words-of line)) ≡ line-played memory number line

@@ -18,6 +18,7 @@ use Rattle.script.specs.declared.statement.Statement.the-variants as st
 use Rattle.script.specs.declared.verb.Verb.{Verb}
 use Rattle.script.specs.declared.verb.Verb.the-variants as verb
 use Rattle.script.specs.Number.{number-of}
+use Rattle.script.specs.Then.{then}
 
 -- the name that a statement begins with
 abbrev pub verb-of : List ℕ → Result Verb Reason
@@ -32,12 +33,7 @@ verb-of w =
 abbrev pub half-of : List ℕ → Result Half Reason
 half-of w = cond (sameBytes w (codes "upper")) (Ok Upper) (cond (sameBytes w (codes "lower")) (Ok Lower) (Err UnknownWord))
 
--- what comes of a value that was read, or why there is none
-abbrev pub read : {X : Type 0} → Result X Reason → (X → Result Statement Reason) → Result Statement Reason
-read (Ok x) f = f x
-read (Err e) f = Err e
-
--- a statement of n words after its name
+-- a statement that takes n words after its name
 abbrev pub takes : ℕ → List (List ℕ) → Result Statement Reason → Result Statement Reason
 takes n args s = cond (eqb (length args) n) s (Err WordCount)
 
@@ -49,42 +45,42 @@ abbrev pub cell : ℕ → CellAddress
 cell a = record { 0 = a }
 
 -- memory word N, with N at most 262,144
-abbrev pub memory-of : List (List ℕ) → Result Statement Reason
-memory-of args =
+abbrev pub memory-statement : List (List ℕ) → Result Statement Reason
+memory-statement args =
     cond (eqb (length args) 0) (Err WordCount)
     (cond (sameBytes (nth-word args 0) (codes "word"))
-    (takes 2 args (read (number-of (nth-word args 1)) (λ n. cond (leb n 262144) (Ok (st.Memory n)) (Err OutOfRange)))) (Err UnknownWord))
+    (takes 2 args (then (number-of (nth-word args 1)) (λ n. cond (leb n 262144) (Ok (st.Memory n)) (Err OutOfRange)))) (Err UnknownWord))
 
 -- raw INDEX VALUE
-abbrev pub raw-of : List (List ℕ) → Result Statement Reason
-raw-of args = takes 2 args (read (number-of (nth-word args 0)) (λ i. read (number-of (nth-word args 1)) (λ v. Ok (st.Raw i v))))
+abbrev pub raw-statement : List (List ℕ) → Result Statement Reason
+raw-statement args = takes 2 args (then (number-of (nth-word args 0)) (λ i. then (number-of (nth-word args 1)) (λ v. Ok (st.Raw i v))))
 
 -- count
-abbrev pub count-of : List (List ℕ) → Result Statement Reason
-count-of args = takes 0 args (Ok st.Count)
+abbrev pub count-statement : List (List ℕ) → Result Statement Reason
+count-statement args = takes 0 args (Ok st.Count)
 
 -- fetch CELL
-abbrev pub fetch-of : List (List ℕ) → Result Statement Reason
-fetch-of args = takes 1 args (read (number-of (nth-word args 0)) (λ a. Ok (st.Fetch (cell a))))
+abbrev pub fetch-statement : List (List ℕ) → Result Statement Reason
+fetch-statement args = takes 1 args (then (number-of (nth-word args 0)) (λ a. Ok (st.Fetch (cell a))))
 
 -- put CELL WORD
-abbrev pub put-of : List (List ℕ) → Result Statement Reason
-put-of args = takes 2 args (read (number-of (nth-word args 0)) (λ a. read (number-of (nth-word args 1)) (λ w. Ok (st.Put (cell a) w))))
+abbrev pub put-statement : List (List ℕ) → Result Statement Reason
+put-statement args = takes 2 args (then (number-of (nth-word args 0)) (λ a. then (number-of (nth-word args 1)) (λ w. Ok (st.Put (cell a) w))))
 
 -- put-half CELL upper|lower HALF
-abbrev pub put-half-of : List (List ℕ) → Result Statement Reason
-put-half-of args =
-    takes 3 args (read (number-of (nth-word args 0)) (λ a. read (half-of (nth-word args 1)) (λ h. read (number-of (nth-word args 2)) (λ v. Ok (st.PutHalf (cell a) h v)))))
+abbrev pub put-half-statement : List (List ℕ) → Result Statement Reason
+put-half-statement args =
+    takes 3 args (then (number-of (nth-word args 0)) (λ a. then (half-of (nth-word args 1)) (λ h. then (number-of (nth-word args 2)) (λ v. Ok (st.PutHalf (cell a) h v)))))
 
 abbrev pub with-verb : Verb → List (List ℕ) → Result Statement Reason
-with-verb verb.Memory args = memory-of args
-with-verb verb.Raw args = raw-of args
-with-verb verb.Count args = count-of args
-with-verb verb.Fetch args = fetch-of args
-with-verb verb.Put args = put-of args
-with-verb verb.PutHalf args = put-half-of args
+with-verb verb.Memory args = memory-statement args
+with-verb verb.Raw args = raw-statement args
+with-verb verb.Count args = count-statement args
+with-verb verb.Fetch args = fetch-statement args
+with-verb verb.Put args = put-statement args
+with-verb verb.PutHalf args = put-half-statement args
 
 -- the statement that the words of a line make, the name first
 unfoldable pub statement-of : List (List ℕ) → Result Statement Reason
 statement-of [] = Err WordCount
-statement-of (name ∷ args) = read (verb-of name) (λ v. with-verb v args)
+statement-of (name ∷ args) = then (verb-of name) (λ v. with-verb v args)

@@ -2,14 +2,12 @@
 ghost use mathlib.Core.Bool.{cond};
 ghost use mathlib.Core.Logic.{_⊎_};
 ghost use mathlib.Core.Path.{_≡_};
-ghost use Prim.Native.Nat.{ℕ};
 ghost use Rattle.std.specs.declared.option.Option.the-variants.{None};
 ghost use Rattle.std.specs.Results.{isOk, Cases};
 ghost use Rattle.std.specs.Vec.{made};
-ghost use Rattle.stores.specs.Word.{numbers, row};
-ghost use Rattle.script.specs.declared.statement.Statement.the-variants as st;
+ghost use Rattle.stores.specs.Word.{numbers};
 ghost use Rattle.script.specs.Line.{texts};
-ghost use Rattle.script.specs.Play.{text-of, said-by, left-by, line-text-of, numbered, line-played, line-left};
+ghost use Rattle.script.specs.Play.{text-of, said-by, left-by, line-text-of, numbered, line-played, line-left, Plays-again};
 ghost use Rattle.script.specs.Session.{memory-of, fetch-said, put-said, answered, left, answered-on, left-on};
 use crate::answer::Answer;
 use crate::line::split_words;
@@ -26,7 +24,7 @@ use stores::WordStore;
 use stores::WordStoreStore;
 
 // What a put answers.
-fn said(answer: Result<(), Fault>) -> Answer
+fn put_answer(answer: Result<(), Fault>) -> Answer
     ensures { λ r. ⌜ r ≡ put-said answer ⌝ }
 {
     match answer {
@@ -36,7 +34,7 @@ fn said(answer: Result<(), Fault>) -> Answer
 }
 
 // What a fetch answers.
-fn told(answer: Result<u32, Fault>) -> Answer
+fn fetch_answer(answer: Result<u32, Fault>) -> Answer
     ensures { λ r. ⌜ r ≡ fetch-said answer ⌝ }
 {
     match answer {
@@ -80,12 +78,9 @@ impl Session {
         ensures answer { λ r. ⌜ made r (λ a. a ≡ answered (memory-of (now (self .entry))) statement) ⌝ }
         ensures after { λ r. ⌜ memory-of (now (self .exit)) ≡ cond (isOk r) (left (memory-of (now (self .entry))) statement) (memory-of (now (self .entry))) ⌝ }
     {
-        if let Statement::Memory(size) = statement {
-            return self.make(heap, size);
-        }
         match &mut self.store {
             Some(store) => Ok(on_store(store, statement)),
-            None => Ok(Err(Reason::NoMemory)),
+            None => self.make(heap, statement),
         }
     }
 
@@ -98,6 +93,7 @@ impl Session {
     ) -> Result<Result<Option<Vec<u8>>, Problem>, AllocError>
         ensures answer { λ r. ⌜ made r (λ a. line-text-of a ≡ line-played (memory-of (now (self .entry))) number (now (line .entry))) ⌝ }
         ensures after { λ r. ⌜ Cases r (λ _. memory-of (now (self .exit)) ≡ line-left (memory-of (now (self .entry))) (now (line .entry))) (λ _. (memory-of (now (self .exit)) ≡ memory-of (now (self .entry))) ⊎ (memory-of (now (self .exit)) ≡ line-left (memory-of (now (self .entry))) (now (line .entry)))) ⌝ }
+        ensures replays { λ _. ⌜ Plays-again (now (line .entry)) ⌝ }
     {
         let words = split_words(heap, line)?;
         if words.is_empty() {
@@ -126,13 +122,19 @@ impl Session {
         }
     }
 
-    fn make(&mut self, heap: Global, size: u32) -> Result<Result<Answer, Reason>, AllocError>
-        ensures answer { λ r. ⌜ made r (λ a. a ≡ answered (memory-of (now (self .entry))) (st.Memory size)) ⌝ }
-        ensures after { λ r. ⌜ memory-of (now (self .exit)) ≡ cond (isOk r) (left (memory-of (now (self .entry))) (st.Memory size)) (memory-of (now (self .entry))) ⌝ }
+    // Before there is a memory, only `memory` can be done.
+    fn make(
+        &mut self,
+        heap: Global,
+        statement: Statement,
+    ) -> Result<Result<Answer, Reason>, AllocError>
+        requires { ⌜ memory-of (now self) ≡ None ⌝ }
+        ensures answer { λ r. ⌜ made r (λ a. a ≡ answered None statement) ⌝ }
+        ensures after { λ r. ⌜ memory-of (now (self .exit)) ≡ cond (isOk r) (left None statement) None ⌝ }
     {
-        if self.store.is_some() {
-            return Ok(Err(Reason::SecondMemory));
-        }
+        let Statement::Memory(size) = statement else {
+            return Ok(Err(Reason::NoMemory));
+        };
         let memory = vec![in heap; 0u32; size as usize]?;
         self.store = Some(WordStore::new(memory));
         Ok(Ok(Answer::Done))
@@ -150,12 +152,12 @@ fn on_store(store: &mut WordStore, statement: Statement) -> Result<Answer, Reaso
             None => Err(Reason::OutOfRange),
         },
         Statement::Count => Ok(Answer::Count(store.count())),
-        Statement::Fetch(address) => Ok(told(store.fetch(address))),
-        Statement::Put { address, word } => Ok(said(store.put_whole(address, word))),
+        Statement::Fetch(address) => Ok(fetch_answer(store.fetch(address))),
+        Statement::Put { address, word } => Ok(put_answer(store.put_whole(address, word))),
         Statement::PutHalf {
             address,
             half,
             value,
-        } => Ok(said(store.put_half(address, half, value))),
+        } => Ok(put_answer(store.put_half(address, half, value))),
     }
 }

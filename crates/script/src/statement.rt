@@ -6,7 +6,7 @@ ghost use lib.ListN.{length};
 ghost use Rattle.std.specs.declared.result.Result.the-variants.{Ok, Err};
 ghost use Rattle.script.specs.declared.reason.Reason.the-variants.{WordCount};
 ghost use Rattle.script.specs.Line.{texts};
-ghost use Rattle.script.specs.Statement.{nth-word, half-of, memory-of, raw-of, count-of, fetch-of, put-of, put-half-of, with-verb, statement-of};
+ghost use Rattle.script.specs.Statement.{nth-word, half-of, memory-statement, raw-statement, count-statement, fetch-statement, put-statement, put-half-statement, with-verb, statement-of};
 use crate::number::read_number;
 use crate::reason::Reason;
 use crate::verb::Verb;
@@ -73,7 +73,7 @@ fn read_half(word: &[u8]) -> Result<Half, Reason>
 
 // memory word N
 fn memory(args: &[&[u8]]) -> Result<Statement, Reason>
-    ensures { λ r. ⌜ r ≡ memory-of (texts (now (args .entry))) ⌝ }
+    ensures { λ r. ⌜ r ≡ memory-statement (texts (now (args .entry))) ⌝ }
 {
     if args.is_empty() {
         return Err(Reason::WordCount);
@@ -91,7 +91,7 @@ fn memory(args: &[&[u8]]) -> Result<Statement, Reason>
 
 // raw INDEX VALUE
 fn raw(args: &[&[u8]]) -> Result<Statement, Reason>
-    ensures { λ r. ⌜ r ≡ raw-of (texts (now (args .entry))) ⌝ }
+    ensures { λ r. ⌜ r ≡ raw-statement (texts (now (args .entry))) ⌝ }
 {
     takes(args, 2)?;
     let index = read_number(nth(args, 0))?;
@@ -101,7 +101,7 @@ fn raw(args: &[&[u8]]) -> Result<Statement, Reason>
 
 // count
 fn count(args: &[&[u8]]) -> Result<Statement, Reason>
-    ensures { λ r. ⌜ r ≡ count-of (texts (now (args .entry))) ⌝ }
+    ensures { λ r. ⌜ r ≡ count-statement (texts (now (args .entry))) ⌝ }
 {
     takes(args, 0)?;
     Ok(Statement::Count)
@@ -109,7 +109,7 @@ fn count(args: &[&[u8]]) -> Result<Statement, Reason>
 
 // fetch CELL
 fn fetch(args: &[&[u8]]) -> Result<Statement, Reason>
-    ensures { λ r. ⌜ r ≡ fetch-of (texts (now (args .entry))) ⌝ }
+    ensures { λ r. ⌜ r ≡ fetch-statement (texts (now (args .entry))) ⌝ }
 {
     takes(args, 1)?;
     let address = CellAddress(read_number(nth(args, 0))?);
@@ -118,7 +118,7 @@ fn fetch(args: &[&[u8]]) -> Result<Statement, Reason>
 
 // put CELL WORD
 fn put(args: &[&[u8]]) -> Result<Statement, Reason>
-    ensures { λ r. ⌜ r ≡ put-of (texts (now (args .entry))) ⌝ }
+    ensures { λ r. ⌜ r ≡ put-statement (texts (now (args .entry))) ⌝ }
 {
     takes(args, 2)?;
     let address = CellAddress(read_number(nth(args, 0))?);
@@ -128,7 +128,7 @@ fn put(args: &[&[u8]]) -> Result<Statement, Reason>
 
 // put-half CELL upper|lower HALF
 fn put_half(args: &[&[u8]]) -> Result<Statement, Reason>
-    ensures { λ r. ⌜ r ≡ put-half-of (texts (now (args .entry))) ⌝ }
+    ensures { λ r. ⌜ r ≡ put-half-statement (texts (now (args .entry))) ⌝ }
 {
     takes(args, 3)?;
     let address = CellAddress(read_number(nth(args, 0))?);

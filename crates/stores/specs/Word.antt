@@ -8,7 +8,7 @@ use Rattle.std.specs.Of.Vec.{vec-items}
 use Rattle.words.specs.Words.{upper-half, lower-half, joined}
 use Rattle.store.specs.declared.half.Half.{Half}
 use Rattle.store.specs.declared.half.Half.the-variants.{Upper, Lower}
-use Rattle.store.specs.Cells.{Cell, HalfCell}
+use Rattle.store.specs.Cells.{Cell}
 use Rattle.stores.specs.declared.word.WordStore.{WordStore}
 
 -- bit k of a number is 0
