@@ -1,4 +1,4 @@
--- The reading of digits, one at a time. Assumes nothing.
+-- The reading of digits, one at a time.
 use mathlib.Core.Path.{_≡_, sym, ap, _∙_}
 use mathlib.Core.Bool.{cond}
 use mathlib.Core.List.{List, [], _∷_}

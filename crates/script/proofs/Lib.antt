@@ -1,5 +1,5 @@
-pub mod Digits
-pub mod Prefixes
-pub mod Spaced
-pub mod Texts
-pub mod Words
+mod Digits
+mod Prefixes
+mod Spaced
+mod Texts
+mod Words

@@ -1,4 +1,4 @@
--- Which base a word is read in. Assumes nothing.
+-- Which base a word is read in.
 use mathlib.Core.Path.{_≡_, refl, ap, _∙_}
 use mathlib.Core.Bool.{true, cond}
 use mathlib.Core.List.{List, [], _∷_}

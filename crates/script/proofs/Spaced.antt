@@ -1,19 +1,15 @@
 -- The words of a line with a space after each: none, one more, and all; and that they make the line again.
-use mathlib.Core.Bool.{cond}
 use mathlib.Core.List.{List, [], _∷_, _++_, append-nil, append-assoc}
 use mathlib.Core.Path.{_≡_, refl, sym, ap, _∙_}
 use Prim.Native.Nat.{ℕ, _+_, _<_, _≤_}
 use native.Mathlib.Omega.{arith}
 use denote.Ref.{RefT}
-use lib.Dec.{eqb}
 use lib.ListN.{length, getD, take}
 use Rattle.std.proofs.shelf.Lists.{joined-more, take-all, take-more}
 use Rattle.std.proofs.shelf.Tests.{ne-eqb}
-use Rattle.std.specs.declared.option.Option.the-variants.{None}
-use Rattle.std.specs.declared.result.Result.the-variants.{Ok}
 use Rattle.std.specs.shelf.Lists.{All}
 use Rattle.script.specs.Line.{begun, words-after, words-of, texts, Plain, Word}
-use Rattle.script.specs.Play.{line-played, numbered, said-by, Plays-again}
+use Rattle.script.specs.Play.{Reads-again}
 use Rattle.script.specs.Transcript.{spaced}
 use Rattle.script.proofs.Texts.{length-texts, text-at}
 use Rattle.script.proofs.Words.{all-words}
@@ -42,7 +38,7 @@ word-read (c ∷ w) v rest h =
     rw (ne-eqb c 35 (h .0 .1), ne-eqb c 32 (h .0 .0))
     (word-read w (v ++ c ∷ []) rest (h .1) ∙ ap (λ l. begun l ++ words-of rest) (append-assoc v (c ∷ []) w))
 
-pub spaced-again : (ws : List (List ℕ)) → All Word ws → words-of (spaced ws) ≡ ws
+spaced-again : (ws : List (List ℕ)) → All Word ws → words-of (spaced ws) ≡ ws
 unfolding spaced
 spaced-again [] h = refl
 spaced-again ([] ∷ ws) h = absurd (omega (arith, h .0 .0))
@@ -51,7 +47,5 @@ spaced-again ((c ∷ w) ∷ ws) h =
     ∙ word-read (c ∷ w) [] (spaced ws) (h .0 .1)
     ∙ ap (λ l. (c ∷ w) ∷ l) (spaced-again ws (h .1))
 
-pub plays-again : (line : List ℕ) → Plays-again line
-unfolding line-played
-plays-again line memory number =
-    ap (λ ws. cond (eqb (length ws) 0) (Ok None) (numbered number (said-by memory ws))) (spaced-again (words-of line) (all-words [] line tt))
+pub reads-again : (line : List ℕ) → Reads-again line
+reads-again line = spaced-again (words-of line) (all-words [] line tt)

@@ -1,4 +1,4 @@
--- The words of a line, one byte and one word at a time. Assumes nothing.
+-- The words of a line, one byte and one word at a time.
 use mathlib.Core.Path.{_≡_, refl, sym, ap, _∙_}
 use mathlib.Core.List.{List, [], _∷_, _++_, append-nil, append-assoc}
 use mathlib.Core.Logic.{_⊎_, ⊎-elim}

@@ -1,4 +1,4 @@
--- The number that a word is. Assumes nothing.
+-- The number that a word is.
 use mathlib.Core.Bool.{Bool, true, _&&_, cond}
 use mathlib.Core.List.{List, [], _∷_}
 use Prim.Native.Nat.{ℕ, _^_}

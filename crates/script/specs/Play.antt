@@ -6,14 +6,14 @@ use Prim.Native.Nat.{ℕ}
 use lib.Dec.{eqb}
 use lib.ListN.{length}
 use Rattle.std.specs.Of.Vec.{vec-items}
-use Rattle.std.specs.Options.{mapped}
+use Rattle.std.specs.Options as options
+use Rattle.std.specs.Results as results
 use Rattle.std.specs.declared.alloc.Global.{Global}
 use Rattle.std.specs.declared.option.Option.{Option}
 use Rattle.std.specs.declared.option.Option.the-variants.{Some, None}
 use Rattle.std.specs.declared.result.Result.{Result}
 use Rattle.std.specs.declared.result.Result.the-variants.{Ok, Err}
 use Rattle.std.specs.declared.vec.Vec.{Vec}
-use Rattle.script.specs.declared.answer.Answer.{Answer}
 use Rattle.script.specs.declared.problem.Problem.{Problem}
 use Rattle.script.specs.declared.reason.Reason.{Reason}
 use Rattle.script.specs.declared.statement.Statement.{Statement}
@@ -23,9 +23,9 @@ use Rattle.script.specs.Statement.{statement-of}
 use Rattle.script.specs.Then.{then}
 use Rattle.script.specs.Transcript.{spaced, line-text}
 
-abbrev pub text-of : Result (Vec ℕ Global) Reason → Result (List ℕ) Reason
-text-of (Ok v) = Ok (vec-items v)
-text-of (Err e) = Err e
+-- the bytes of what a function answers
+abbrev pub bytes-of : Result (Vec ℕ Global) Reason → Result (List ℕ) Reason
+bytes-of r = results.mapped vec-items (λ e. e) r
 
 -- the transcript's line for the statement that words make, or why there is none
 unfoldable pub said-by : Option (List ℕ) → List (List ℕ) → Result (List ℕ) Reason
@@ -39,9 +39,8 @@ left-after memory (Err e) = memory
 unfoldable pub left-by : Option (List ℕ) → List (List ℕ) → Option (List ℕ)
 left-by memory words = left-after memory (statement-of words)
 
-abbrev pub line-text-of : Result (Option (Vec ℕ Global)) Problem → Result (Option (List ℕ)) Problem
-line-text-of (Ok text) = Ok (mapped vec-items text)
-line-text-of (Err p) = Err p
+abbrev pub line-bytes-of : Result (Option (Vec ℕ Global)) Problem → Result (Option (List ℕ)) Problem
+line-bytes-of r = results.mapped (options.mapped vec-items) (λ p. p) r
 
 -- what is wrong is told with the line's number
 abbrev pub numbered : ℕ → Result (List ℕ) Reason → Result (Option (List ℕ)) Problem
@@ -55,6 +54,6 @@ line-played memory number line = cond (eqb (length (words-of line)) 0) (Ok None)
 unfoldable pub line-left : Option (List ℕ) → List ℕ → Option (List ℕ)
 line-left memory line = cond (eqb (length (words-of line)) 0) memory (left-by memory (words-of line))
 
--- what stands left of the arrow in the transcript is a line that comes to the same
-abbrev pub Plays-again : List ℕ → Type 0
-Plays-again line = (memory : Option (List ℕ)) (number : ℕ) → line-played memory number (spaced (words-of line)) ≡ line-played memory number line
+-- the words of a line, as they stand left of the arrow in the transcript, are a line of the same words
+abbrev pub Reads-again : List ℕ → Type 0
+Reads-again line = words-of (spaced (words-of line)) ≡ words-of line

@@ -41,8 +41,8 @@ takes n args s = cond (eqb (length args) n) s (Err WordCount)
 abbrev pub nth-word : List (List ℕ) → ℕ → List ℕ
 nth-word args i = getD args i []
 
-abbrev pub cell : ℕ → CellAddress
-cell a = record { 0 = a }
+abbrev pub address : ℕ → CellAddress
+address a = record { 0 = a }
 
 -- memory word N, with N at most 262,144
 abbrev pub memory-statement : List (List ℕ) → Result Statement Reason
@@ -61,16 +61,16 @@ count-statement args = takes 0 args (Ok st.Count)
 
 -- fetch CELL
 abbrev pub fetch-statement : List (List ℕ) → Result Statement Reason
-fetch-statement args = takes 1 args (then (number-of (nth-word args 0)) (λ a. Ok (st.Fetch (cell a))))
+fetch-statement args = takes 1 args (then (number-of (nth-word args 0)) (λ a. Ok (st.Fetch (address a))))
 
 -- put CELL WORD
 abbrev pub put-statement : List (List ℕ) → Result Statement Reason
-put-statement args = takes 2 args (then (number-of (nth-word args 0)) (λ a. then (number-of (nth-word args 1)) (λ w. Ok (st.Put (cell a) w))))
+put-statement args = takes 2 args (then (number-of (nth-word args 0)) (λ a. then (number-of (nth-word args 1)) (λ w. Ok (st.Put (address a) w))))
 
 -- put-half CELL upper|lower HALF
 abbrev pub put-half-statement : List (List ℕ) → Result Statement Reason
 put-half-statement args =
-    takes 3 args (then (number-of (nth-word args 0)) (λ a. then (half-of (nth-word args 1)) (λ h. then (number-of (nth-word args 2)) (λ v. Ok (st.PutHalf (cell a) h v)))))
+    takes 3 args (then (number-of (nth-word args 0)) (λ a. then (half-of (nth-word args 1)) (λ h. then (number-of (nth-word args 2)) (λ v. Ok (st.PutHalf (address a) h v)))))
 
 abbrev pub with-verb : Verb → List (List ℕ) → Result Statement Reason
 with-verb verb.Memory args = memory-statement args

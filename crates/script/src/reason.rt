@@ -1,5 +1,8 @@
 // Why a line is no statement, or one that cannot be done.
-#[derive(Clone, Copy, Debug, PartialEq, Eq)]
+ghost use mathlib.Core.Path.{_≡_};
+ghost use Rattle.script.specs.Transcript.{reason-text};
+
+#[derive(Clone, Copy, Debug, PartialEq)]
 pub enum Reason {
     UnknownWord,
     WordCount,
@@ -12,7 +15,9 @@ pub enum Reason {
 
 impl Reason {
     // What a person is told.
-    pub(crate) fn text(self) -> &'static str {
+    pub(crate) fn text(self) -> &'static str
+        ensures { λ r. ⌜ now r ≡ reason-text self ⌝ }
+    {
         match self {
             Reason::UnknownWord => "unknown word",
             Reason::WordCount => "wrong number of words",

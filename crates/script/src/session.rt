@@ -3,11 +3,13 @@ ghost use mathlib.Core.Bool.{cond};
 ghost use mathlib.Core.Logic.{_⊎_};
 ghost use mathlib.Core.Path.{_≡_};
 ghost use Rattle.std.specs.declared.option.Option.the-variants.{None};
+ghost use Rattle.std.specs.declared.result.Result.the-variants.{Ok};
+ghost use Rattle.script.specs.declared.answer.Answer.the-variants.{Done};
 ghost use Rattle.std.specs.Results.{isOk, Cases};
-ghost use Rattle.std.specs.Vec.{made};
+ghost use Rattle.std.specs.Vec.{made, refused};
 ghost use Rattle.stores.specs.Word.{numbers};
 ghost use Rattle.script.specs.Line.{texts};
-ghost use Rattle.script.specs.Play.{text-of, said-by, left-by, line-text-of, numbered, line-played, line-left, Plays-again};
+ghost use Rattle.script.specs.Play.{bytes-of, said-by, left-by, line-bytes-of, numbered, line-played, line-left, Reads-again};
 ghost use Rattle.script.specs.Session.{memory-of, fetch-said, put-said, answered, left, answered-on, left-on};
 use crate::answer::Answer;
 use crate::line::split_words;
@@ -45,7 +47,7 @@ fn fetch_answer(answer: Result<u32, Fault>) -> Answer
 
 // A line's text; what is wrong with a line is told with its number.
 fn at_line(number: u64, text: Result<Vec<u8>, Reason>) -> Result<Option<Vec<u8>>, Problem>
-    ensures { λ r. ⌜ line-text-of r ≡ numbered number (text-of text) ⌝ }
+    ensures { λ r. ⌜ line-bytes-of r ≡ numbered number (bytes-of text) ⌝ }
 {
     match text {
         Ok(text) => Ok(Some(text)),
@@ -69,13 +71,14 @@ impl Session {
         Session { store: None }
     }
 
-    // Does a statement. Only want of memory for a new memory is an outer error, and it leaves everything.
+    // Does a statement. Only a new memory for which there is no room is an outer error, and leaves everything.
     pub fn perform(
         &mut self,
         heap: Global,
         statement: Statement,
     ) -> Result<Result<Answer, Reason>, AllocError>
         ensures answer { λ r. ⌜ made r (λ a. a ≡ answered (memory-of (now (self .entry))) statement) ⌝ }
+        ensures refusal { λ r. ⌜ refused r (λ _. (memory-of (now (self .entry)) ≡ None) × (answered None statement ≡ Ok Done)) ⌝ }
         ensures after { λ r. ⌜ memory-of (now (self .exit)) ≡ cond (isOk r) (left (memory-of (now (self .entry))) statement) (memory-of (now (self .entry))) ⌝ }
     {
         match &mut self.store {
@@ -91,9 +94,9 @@ impl Session {
         number: u64,
         line: &[u8],
     ) -> Result<Result<Option<Vec<u8>>, Problem>, AllocError>
-        ensures answer { λ r. ⌜ made r (λ a. line-text-of a ≡ line-played (memory-of (now (self .entry))) number (now (line .entry))) ⌝ }
+        ensures answer { λ r. ⌜ made r (λ a. line-bytes-of a ≡ line-played (memory-of (now (self .entry))) number (now (line .entry))) ⌝ }
         ensures after { λ r. ⌜ Cases r (λ _. memory-of (now (self .exit)) ≡ line-left (memory-of (now (self .entry))) (now (line .entry))) (λ _. (memory-of (now (self .exit)) ≡ memory-of (now (self .entry))) ⊎ (memory-of (now (self .exit)) ≡ line-left (memory-of (now (self .entry))) (now (line .entry)))) ⌝ }
-        ensures replays { λ _. ⌜ Plays-again (now (line .entry)) ⌝ }
+        ensures reads_again { λ _. ⌜ Reads-again (now (line .entry)) ⌝ }
     {
         let words = split_words(heap, line)?;
         if words.is_empty() {
@@ -109,7 +112,7 @@ impl Session {
         heap: Global,
         words: &[&[u8]],
     ) -> Result<Result<Vec<u8>, Reason>, AllocError>
-        ensures answer { λ r. ⌜ made r (λ a. text-of a ≡ said-by (memory-of (now (self .entry))) (texts (now (words .entry)))) ⌝ }
+        ensures answer { λ r. ⌜ made r (λ a. bytes-of a ≡ said-by (memory-of (now (self .entry))) (texts (now (words .entry)))) ⌝ }
         ensures after { λ r. ⌜ Cases r (λ _. memory-of (now (self .exit)) ≡ left-by (memory-of (now (self .entry))) (texts (now (words .entry)))) (λ _. (memory-of (now (self .exit)) ≡ memory-of (now (self .entry))) ⊎ (memory-of (now (self .exit)) ≡ left-by (memory-of (now (self .entry))) (texts (now (words .entry))))) ⌝ }
     {
         let statement = match read_statement(words) {
@@ -130,6 +133,7 @@ impl Session {
     ) -> Result<Result<Answer, Reason>, AllocError>
         requires { ⌜ memory-of (now self) ≡ None ⌝ }
         ensures answer { λ r. ⌜ made r (λ a. a ≡ answered None statement) ⌝ }
+        ensures refusal { λ r. ⌜ refused r (λ _. answered None statement ≡ Ok Done) ⌝ }
         ensures after { λ r. ⌜ memory-of (now (self .exit)) ≡ cond (isOk r) (left None statement) None ⌝ }
     {
         let Statement::Memory(size) = statement else {

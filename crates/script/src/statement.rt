@@ -42,8 +42,8 @@ pub enum Statement {
     },
 }
 
-// Are there just so many words?
-fn takes(args: &[&[u8]], count: usize) -> Result<(), Reason>
+// There have to be just so many words.
+fn expect_words(args: &[&[u8]], count: usize) -> Result<(), Reason>
     ensures { λ r. ⌜ r ≡ cond (eqb (length (texts (now (args .entry)))) count) (Ok tt) (Err WordCount) ⌝ }
 {
     if args.len() != count {
@@ -81,7 +81,7 @@ fn memory(args: &[&[u8]]) -> Result<Statement, Reason>
     if !is(nth(args, 0), b"word") {
         return Err(Reason::UnknownWord);
     }
-    takes(args, 2)?;
+    expect_words(args, 2)?;
     let size = read_number(nth(args, 1))?;
     if size > MOST_NUMBERS {
         return Err(Reason::OutOfRange);
@@ -93,7 +93,7 @@ fn memory(args: &[&[u8]]) -> Result<Statement, Reason>
 fn raw(args: &[&[u8]]) -> Result<Statement, Reason>
     ensures { λ r. ⌜ r ≡ raw-statement (texts (now (args .entry))) ⌝ }
 {
-    takes(args, 2)?;
+    expect_words(args, 2)?;
     let index = read_number(nth(args, 0))?;
     let value = read_number(nth(args, 1))?;
     Ok(Statement::Raw { index, value })
@@ -103,7 +103,7 @@ fn raw(args: &[&[u8]]) -> Result<Statement, Reason>
 fn count(args: &[&[u8]]) -> Result<Statement, Reason>
     ensures { λ r. ⌜ r ≡ count-statement (texts (now (args .entry))) ⌝ }
 {
-    takes(args, 0)?;
+    expect_words(args, 0)?;
     Ok(Statement::Count)
 }
 
@@ -111,7 +111,7 @@ fn count(args: &[&[u8]]) -> Result<Statement, Reason>
 fn fetch(args: &[&[u8]]) -> Result<Statement, Reason>
     ensures { λ r. ⌜ r ≡ fetch-statement (texts (now (args .entry))) ⌝ }
 {
-    takes(args, 1)?;
+    expect_words(args, 1)?;
     let address = CellAddress(read_number(nth(args, 0))?);
     Ok(Statement::Fetch(address))
 }
@@ -120,7 +120,7 @@ fn fetch(args: &[&[u8]]) -> Result<Statement, Reason>
 fn put(args: &[&[u8]]) -> Result<Statement, Reason>
     ensures { λ r. ⌜ r ≡ put-statement (texts (now (args .entry))) ⌝ }
 {
-    takes(args, 2)?;
+    expect_words(args, 2)?;
     let address = CellAddress(read_number(nth(args, 0))?);
     let word = read_number(nth(args, 1))?;
     Ok(Statement::Put { address, word })
@@ -130,7 +130,7 @@ fn put(args: &[&[u8]]) -> Result<Statement, Reason>
 fn put_half(args: &[&[u8]]) -> Result<Statement, Reason>
     ensures { λ r. ⌜ r ≡ put-half-statement (texts (now (args .entry))) ⌝ }
 {
-    takes(args, 3)?;
+    expect_words(args, 3)?;
     let address = CellAddress(read_number(nth(args, 0))?);
     let half = read_half(nth(args, 1))?;
     let value = read_number(nth(args, 2))?;

@@ -7,6 +7,10 @@ use Rattle.words.specs.Words.{half-bits, upper-half, lower-half}
 use Rattle.store.specs.declared.half.Half.{Half}
 use Rattle.store.specs.declared.half.Half.the-variants.{Upper, Lower}
 
+-- a row has at most so many cells
+abbrev pub most-cells : ℕ
+most-cells = 131072
+
 pub record HalfCell : Type 0 where
   pub value : ℕ
   pub good : Bool

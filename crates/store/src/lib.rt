@@ -1,4 +1,4 @@
-// A store: a row of at most 131,072 cells with four functions. Everything above a store knows it by this interface alone.
+// A store: a row of at most 131,072 cells with four functions. Code that is generic over a store knows it by this interface alone.
 ghost use mathlib.Core.Bool.{cond};
 ghost use mathlib.Core.List.{List};
 ghost use mathlib.Core.Path.{_≡_};
@@ -6,7 +6,7 @@ ghost use Prim.Native.Nat.{ℕ, _^_, _<_, _≤_};
 ghost use lib.ListN.{length};
 ghost use Rattle.std.specs.Results.{isOk};
 ghost use Rattle.std.specs.Vec.{made};
-ghost use Rattle.store.specs.Cells.{Cell, CellFits, cell-at};
+ghost use Rattle.store.specs.Cells.{Cell, CellFits, cell-at, most-cells};
 ghost use Rattle.store.specs.Functions.{fetched, put-whole-answer, put-half-answer, whole-put, half-put};
 
 mod address;
@@ -32,7 +32,7 @@ pub trait Store {
     // the row of cells that the store means
     ghost cells: { Self → List Cell };
 
-    law bounded: { (s : Self) → length (cells s) ≤ 131072 };
+    law bounded: { (s : Self) → length (cells s) ≤ most-cells };
 
     law ranged: { (s : Self) (a : ℕ) → a < length (cells s) → CellFits (cell-at (cells s) a) };
 

@@ -1,11 +1,11 @@
 -- A function mapped over the first n of a list: its length, its elements, and what a change of the list changes.
 use mathlib.Core.List.{List, map}
 use mathlib.Core.Path.{_≡_, sym, ap, _∙_}
-use Prim.Native.Nat.{ℕ, _<_, _≤_, min}
+use Prim.Native.Nat.{ℕ, _<_, min}
 use native.Mathlib.Omega.{arith}
 use lib.ListN.{length, getD, set, take, length-take, length-map}
 use lib.Seq.{getD-take, take-set-lt}
-use Rattle.std.proofs.shelf.Lists.{getD-map, map-set, getD-read}
+use Rattle.std.proofs.shelf.Lists.{getD-map, map-set}
 
 module _ {X Y : Type 0} (f : X → Y) (n : ℕ) (xs : List X) where
   pub length-mapped : length (map f (take n xs)) ≡ min (length xs) n

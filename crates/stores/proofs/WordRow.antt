@@ -1,26 +1,26 @@
 -- The laws of the word store's row: its length, its cells, and what a changed number changes.
 use mathlib.Core.List.{List}
-use mathlib.Core.Path.{_≡_, sym, ap, subst}
-use Prim.Native.Nat.{ℕ, _<_, min}
+use mathlib.Core.Path.{_≡_, sym, subst}
+use Prim.Native.Nat.{ℕ, _<_}
 use native.Mathlib.Omega.{arith}
 use lib.ListN.{length, getD, set}
 use Rattle.std.proofs.shelf.Lists.{getD-default, getD-read}
-use Rattle.store.specs.Cells.{cell-at, CellFits, good-cell}
+use Rattle.store.specs.Cells.{cell-at, CellFits, good-cell, most-cells}
 use Rattle.stores.specs.Word.{cell-of, cell-count, row-of}
 use Rattle.stores.proofs.Mapped.{length-mapped, mapped-at, mapped-set}
 
-pub length-row : (xs : List ℕ) → length (row-of xs) ≡ min (length xs) 131072
+pub length-row : (xs : List ℕ) → length (row-of xs) ≡ cell-count xs
 unfolding row-of
-length-row xs = length-mapped cell-of 131072 xs
+length-row xs = length-mapped cell-of most-cells xs
 
 module _ (xs : List ℕ) (a : ℕ) (within : a < length (row-of xs)) where
   pub row-at : (x : ℕ) → x ≡ getD xs a x → cell-at (row-of xs) a ≡ cell-of x
   unfolding row-of
-  row-at x read = mapped-at cell-of 131072 xs a within x read (good-cell 0)
+  row-at x read = mapped-at cell-of most-cells xs a within x read (good-cell 0)
 
   pub row-set : (y : ℕ) → row-of (set xs a y) ≡ set (row-of xs) a (cell-of y)
   unfolding row-of
-  row-set y = mapped-set cell-of 131072 xs a within y
+  row-set y = mapped-set cell-of most-cells xs a within y
 
   pub row-fits : CellFits (cell-at (row-of xs) a)
   row-fits =

@@ -1,12 +1,10 @@
 // One 32-bit number of the word store: bits 29 to 0 are the word, bit 31 marks the upper half spoiled, bit 30 the lower.
-ghost use mathlib.Core.Bool.{true, false};
 ghost use mathlib.Core.Path.{_≡_};
 ghost use Prim.Native.Nat.{_^_, _<_};
-ghost use Rattle.std.specs.Results.{Cases};
-ghost use Rattle.store.specs.declared.fault.Fault.the-variants.{Spoiled};
+ghost use Rattle.std.specs.declared.result.Result.the-variants.{Ok};
 ghost use Rattle.std.specs.Vec.{made};
 ghost use Rattle.store.specs.Cells.{part, other-half, with-half};
-ghost use Rattle.store.specs.Functions.{word-of};
+ghost use Rattle.store.specs.Functions.{if-good, word-of};
 ghost use Rattle.stores.specs.Word.{cell-of, half-written};
 use store::Fault;
 use store::Half;
@@ -41,7 +39,8 @@ pub(crate) fn word(number: u32) -> Result<u32, Fault>
 
 // The number with other bits in one half, and no marks; or the fault of the other half.
 pub(crate) fn put_half(number: u32, half: Half, value: u32) -> Result<u32, Fault>
-    ensures { λ r. ⌜ Cases r (λ x. (part (cell-of number) (other-half half) .good ≡ true) × (cell-of x ≡ with-half (cell-of number) half value) × (x ≡ half-written number half value)) (λ e. (part (cell-of number) (other-half half) .good ≡ false) × (e ≡ Spoiled (other-half half))) ⌝ }
+    ensures answer { λ r. ⌜ r ≡ if-good (cell-of number) (other-half half) (Ok (half-written number half value)) ⌝ }
+    ensures cell { λ r. ⌜ made r (λ x. cell-of x ≡ with-half (cell-of number) half value) ⌝ }
 {
     if !is_good(number, half.other()) {
         return Err(Fault::Spoiled(half.other()));

@@ -1,16 +1,15 @@
 // The word store: a cell is one 32-bit number. Numbers past the first 131,072 are never used.
 ghost use mathlib.Core.Bool.{cond};
 ghost use mathlib.Core.Path.{_≡_};
-ghost use Prim.Native.Nat.{_^_, _<_, _≤_};
+ghost use Prim.Native.Nat.{_<_, _≤_};
 ghost use lib.Dec.{ltb};
 ghost use lib.ListN.{length, getD, set};
 ghost use Rattle.std.specs.declared.option.Option.the-variants.{Some, None};
-ghost use Rattle.std.specs.declared.result.Result.the-variants.{Ok, Err};
 ghost use Rattle.std.specs.Results.{isOk, Cases};
 ghost use Rattle.words.specs.Words.{word-bits};
 ghost use Rattle.store.specs.Cells.{cell-at};
 ghost use Rattle.store.specs.declared.fault.Fault.the-variants.{NoCell};
-ghost use Rattle.store.specs.Functions.{fetched, put-whole-answer, put-half-answer, whole-put, half-put};
+ghost use Rattle.store.specs.Functions.{put-whole-answer, put-half-answer, whole-put, half-put};
 ghost use Rattle.stores.specs.Word.{cell-of, numbers, row, cell-count, half-written};
 use super::number;
 use store::CellAddress;

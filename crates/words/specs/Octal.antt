@@ -12,6 +12,6 @@ octal-digit n = decimal (n % 8)
 abbrev pub octal-half : ℕ → List ℕ
 octal-half h = octal-digit (h / 8 ^ 4) ++ (octal-digit (h / 8 ^ 3) ++ (octal-digit (h / 8 ^ 2) ++ (octal-digit (h / 8) ++ octal-digit h)))
 
--- ten
+-- ten, those of the upper half first
 abbrev pub octal-word : ℕ → List ℕ
 octal-word w = octal-half (upper-half w) ++ octal-half (lower-half w)

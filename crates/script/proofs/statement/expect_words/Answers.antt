@@ -1,6 +1,6 @@
 use borrow.Author.Needs.{needs}
 use Rattle.script.proofs.Texts.{length-texts}
-use Rattle.script.proofs.statement.takes.Needs as need
+use Rattle.script.proofs.statement.expect_words.Needs as need
 
 pub returns-then-args-count : need.returns-then-args-count
 returns-then-args-count c = search (needs, length-texts)
