@@ -1,54 +1,45 @@
-// The console: scripts in, transcripts out. Everything that a line does is `script::Session::play_line`.
+// The console: scripts in, transcripts out. What a script comes to is `script::play`.
 use script::ProblemDisplay;
-use script::Session;
+use script::play;
 use std::env;
 use std::error::AnyError;
-use std::fs::File;
-use std::io::BufRead;
-use std::io::BufReader;
+use std::fs;
 use std::io::Read;
 use std::io::Write;
 
-// Plays a script from nothing, up to its end or its first bad line.
-fn play<R: Read + Drop>(rt: &LibcRuntime, input: BufReader<R>) -> Result<(), AnyError> {
+// Writes a script's transcript; what stops the script is the error.
+fn show(rt: &LibcRuntime, script: &[u8]) -> Result<(), AnyError> {
     let heap = rt.alloc();
-    let mut session = Session::new();
-    let mut number: u64 = 0;
-    for line in input.lines(heap) {
-        let line = line?;
-        number = number.saturating_add(1);
-        match session.play_line(heap, number, line.as_bytes())? {
-            Ok(None) => {}
-            Ok(Some(mut text)) => {
-                text.push(b'\n')?;
-                rt.stdout().write_all(text.as_slice())?;
-            }
-            Err(problem) => return Err(format!(heap, "{problem}")?.into()),
-        }
+    let played = play(heap, script)?;
+    rt.stdout().write_all(played.transcript.as_slice())?;
+    match played.problem {
+        Some(problem) => Err(format!(heap, "{problem}")?.into()),
+        None => Ok(()),
     }
-    Ok(())
 }
 
 // Plays each file that is named, or standard input where none is.
 fn run(rt: &LibcRuntime) -> Result<(), AnyError> {
-    let mut none = true;
+    let mut named = false;
     for path in env::args(rt)?.skip(1) {
-        none = false;
+        named = true;
         println!(rt, "# {path}")?;
-        play(rt, BufReader::new(File::open(rt, path.as_str())?))?;
+        show(rt, fs::read(rt, path.as_str())?.as_slice())?;
     }
-    if none {
-        play(rt, BufReader::new(rt.stdin()))?;
+    if !named {
+        let mut script = Vec::new(rt.alloc());
+        rt.stdin().read_to_end(&mut script)?;
+        show(rt, script.as_slice())?;
     }
     Ok(())
 }
 
 fn main(rt: LibcRuntime) -> Result<(), AnyError> {
-    let played = run(&rt);
-    if let Err(error) = &played {
+    let ended = run(&rt);
+    if let Err(error) = &ended {
         eprintln!(rt, "{error}")?;
     }
-    played
+    ended
 }
 
 #[cfg(test)]

@@ -13,6 +13,7 @@ use script::Session;
 use script::Statement;
 use script::StatementDebug;
 use script::StatementPartialEq;
+use script::play;
 use script::read_number;
 use script::read_statement;
 use script::split_words;
@@ -150,13 +151,38 @@ fn good_lines(rt: LibcRuntime) -> Result<(), Fail> {
     check_eq(
         second_line(heap, b"raw  1 0 ")?,
         Ok(Some(b"raw 1 0 -> ok".to_vec(heap)?)),
+    )
+}
+
+#[test]
+fn a_script_stops_at_its_first_bad_line(rt: LibcRuntime) -> Result<(), Fail> {
+    let heap = rt.alloc();
+    let script = b"memory word 2\n\n put  1 5 # five\nput 1\nfetch 1\nbad\n";
+    let played = play(heap, script)?;
+    check_eq(
+        played.transcript.as_slice(),
+        b"memory word 2 -> ok\nput 1 5 -> ok\n".as_slice(),
     )?;
-    let problem = Problem {
-        line: 12,
-        reason: Reason::WordCount,
-    };
+    let problem = played.problem.ok_or("no problem")?;
+    check_eq(
+        problem,
+        Problem {
+            line: 4,
+            reason: Reason::WordCount,
+        },
+    )?;
     check_eq(
         format!(heap, "{problem}")?.as_str(),
-        "line 12: wrong number of words",
+        "line 4: wrong number of words",
     )
+}
+
+#[test]
+fn the_last_line_may_lack_its_line_feed(rt: LibcRuntime) -> Result<(), Fail> {
+    let played = play(rt.alloc(), b"memory word 1\ncount")?;
+    check_eq(
+        played.transcript.as_slice(),
+        b"memory word 1 -> ok\ncount -> 1\n".as_slice(),
+    )?;
+    check(played.problem.is_none())
 }

@@ -1,4 +1,6 @@
 mod Digits
+mod Lines
+mod Following
 mod Prefixes
 mod Spaced
 mod Texts

@@ -1,4 +1,4 @@
--- The words of a line.
+-- The lines of a script and the words of a line.
 use mathlib.Core.Path.{_≡_}
 use mathlib.Core.Bool.{cond}
 use mathlib.Core.List.{List, [], _∷_, _++_, map}
@@ -8,7 +8,7 @@ use lib.Dec.{eqb}
 use lib.ListN.{length}
 use Rattle.std.specs.shelf.Lists.{All}
 
--- a word that has begun, if it has any byte
+-- a word or a line that has begun, if it has any byte
 abbrev pub begun : List ℕ → List (List ℕ)
 begun [] = []
 begun (c ∷ w) = (c ∷ w) ∷ []
@@ -21,6 +21,15 @@ words-after w (c ∷ cs) = cond (eqb c 35) (begun w) (cond (eqb c 32) (begun w +
 
 abbrev pub words-of : List ℕ → List (List ℕ)
 words-of line = words-after [] line
+
+-- the lines of what is left of a script, after the bytes l of a line that has begun:
+-- a line feed (10) ends a line, and the last one may lack it
+abbrev pub lines-after : List ℕ → List ℕ → List (List ℕ)
+lines-after l [] = begun l
+lines-after l (c ∷ cs) = cond (eqb c 10) (l ∷ lines-after [] cs) (lines-after (l ++ c ∷ []) cs)
+
+abbrev pub lines-of : List ℕ → List (List ℕ)
+lines-of script = lines-after [] script
 
 -- what slices hold
 unfoldable pub texts : List (RefT (List ℕ)) → List (List ℕ)

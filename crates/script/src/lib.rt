@@ -2,6 +2,7 @@
 mod answer;
 mod line;
 mod number;
+mod player;
 mod problem;
 mod reason;
 mod session;
@@ -14,6 +15,8 @@ pub use answer::AnswerDebug;
 pub use answer::AnswerPartialEq;
 pub use line::split_words;
 pub use number::read_number;
+pub use player::Played;
+pub use player::play;
 pub use problem::Problem;
 pub use problem::ProblemDebug;
 pub use problem::ProblemDisplay;

@@ -1,14 +1,14 @@
-// The words of a line: what stands between spaces, before any `#`.
+// The lines of a script, and the words of a line: what stands between spaces, before any `#`.
 ghost use mathlib.Core.Path.{_≡_};
 ghost use mathlib.Core.Bool.{_||_};
-ghost use mathlib.Core.List.{_++_};
+ghost use mathlib.Core.List.{_∷_, _++_};
 ghost use lib.Dec.{eqb};
 ghost use lib.ListN.{length, getD, take, drop};
 ghost use Prim.Native.Nat.{_≤_, _<_};
 ghost use Rattle.std.specs.Of.Vec.{vec-items};
 ghost use Rattle.std.specs.Vec.{made};
 ghost use Rattle.std.specs.shelf.Lists.{All};
-ghost use Rattle.script.specs.Line.{begun, words-of, texts, Word};
+ghost use Rattle.script.specs.Line.{begun, words-of, lines-of, texts, Word};
 use std::alloc::AllocError;
 use std::alloc::Global;
 
@@ -52,4 +52,31 @@ pub fn split_words<'a>(heap: Global, line: &'a [u8]) -> Result<Vec<&'a [u8]>, Al
         }
     }
     Ok(words)
+}
+
+// The first line of a script, and what follows its line feed.
+fn cut_line(script: &[u8]) -> (&[u8], &[u8])
+    ensures line { λ r. ⌜ (0 < length (now (script .entry)) → lines-of (now (script .entry)) ≡ now (r .0) ∷ lines-of (now (r .1))) ⌝ }
+    ensures rest { λ r. ⌜ (0 < length (now (script .entry)) → length (now (r .1)) < length (now (script .entry))) ⌝ }
+{
+    for (i, byte) in script.iter().enumerate() {
+        if *byte == b'\n' {
+            return (&script[0..i], &script[i + 1..]);
+        }
+    }
+    (script, &[])
+}
+
+// The lines of a script, as parts of it.
+pub(crate) fn split_lines<'a>(heap: Global, script: &'a [u8]) -> Result<Vec<&'a [u8]>, AllocError>
+    ensures { λ r. ⌜ made r (λ v. texts (vec-items v) ≡ lines-of (now (script .entry))) ⌝ }
+{
+    let mut lines = Vec::new(heap);
+    let mut rest = script;
+    while !rest.is_empty() {
+        let (line, after) = cut_line(rest);
+        lines.push(line)?;
+        rest = after;
+    }
+    Ok(lines)
 }
