@@ -1,6 +1,7 @@
 mod Digits
-mod Lines
 mod Following
+mod Later
+mod Lines
 mod Prefixes
 mod Spaced
 mod Texts

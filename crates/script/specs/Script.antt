@@ -1,5 +1,6 @@
 -- What a whole script comes to: the transcript of its lines, up to the first that has a problem.
 use mathlib.Core.List.{List, [], _∷_, _++_}
+use mathlib.Core.Path.{_≡_}
 use Prim.Native.Nat.{ℕ, _+_}
 use Rattle.std.specs.Of.Vec.{vec-items}
 use Rattle.std.specs.declared.option.Option.{Option}
@@ -36,3 +37,7 @@ lines-played t memory number (line ∷ lines) = goes-on t (line-played memory nu
 -- a script is played from nothing, and its lines count from 1
 abbrev pub script-played : List ℕ → Outcome
 script-played script = lines-played [] None 1 (lines-of script)
+
+-- what follows a script on a new line leaves its transcript as it is, and goes on after it
+abbrev pub Transcript-stays : List ℕ → Type 0
+Transcript-stays script = (more : List ℕ) → (rest : List ℕ) × (script-played (script ++ 10 ∷ more) .transcript ≡ script-played script .transcript ++ rest)

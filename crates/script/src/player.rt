@@ -6,7 +6,7 @@ ghost use Rattle.std.specs.Of.Vec.{vec-items};
 ghost use Rattle.std.specs.Options.{mapped};
 ghost use Rattle.std.specs.Vec.{made};
 ghost use Rattle.script.specs.Line.{texts};
-ghost use Rattle.script.specs.Script.{grown, told-by, lines-played, script-played};
+ghost use Rattle.script.specs.Script.{grown, told-by, lines-played, script-played, Transcript-stays};
 use crate::line::split_lines;
 use crate::problem::Problem;
 use crate::session::Session;
@@ -55,7 +55,8 @@ fn play_lines(heap: Global, lines: &[&[u8]]) -> Result<Played, AllocError>
 
 // Plays a script from nothing.
 pub fn play(heap: Global, script: &[u8]) -> Result<Played, AllocError>
-    ensures { λ r. ⌜ made r (λ p. told-by p ≡ script-played (now (script .entry))) ⌝ }
+    ensures outcome { λ r. ⌜ made r (λ p. told-by p ≡ script-played (now (script .entry))) ⌝ }
+    ensures stays { λ _. ⌜ Transcript-stays (now (script .entry)) ⌝ }
 {
     let lines = split_lines(heap, script)?;
     play_lines(heap, lines.as_slice())
