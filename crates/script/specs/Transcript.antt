@@ -34,6 +34,6 @@ problem-text p = codes "line " ++ (decimal (p .line) ++ (codes ": " ++ reason-te
 unfoldable pub spaced : List (List ℕ) → List ℕ
 spaced words = joined (λ w. w ++ 32 ∷ []) words
 
--- the words, an arrow and the answer
+-- the words, an arrow and the answer: for a line with words, these joined by single spaces, then ` -> ` and the answer
 abbrev pub line-text : List (List ℕ) → Answer → List ℕ
 line-text words a = spaced words ++ (codes "-> " ++ answer-text a)
