@@ -1,4 +1,6 @@
 // The console: scripts in, transcripts out. What a script comes to is `script::play`.
+#![tactic(auto)]
+
 use anyhow::anyhow;
 use script::play;
 use std::io::{Read, Write};

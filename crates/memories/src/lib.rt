@@ -1,4 +1,6 @@
 // The memories that a script describes: a word or a parity memory, or a pair of them; and one store over any such.
+#![tactic(auto)]
+
 mod any;
 mod bank;
 mod layout;

@@ -20,14 +20,14 @@ pub struct Pair<F, S> {
 
 impl<F: Store, S: Store> Pair<F, S> {
     fn cell_count(&self) -> u32
-        ensures { result ≡ count_of F.Store.cells S.Store.cells self.now }
+        ensures { result ≡ count_of F.cells S.cells self.now }
     {
         self.rule.count(self.first.count(), self.second.count())
     }
 
     // The place of a cell, by the address rule.
     fn place(&self, address: CellAddress) -> Result<Place, Fault>
-        ensures { MatchResult result (λ p. (address.0 < count_of F.Store.cells S.Store.cells self.now) × (p ≡ place_in F.Store.cells self.now address.0)) (λ e. (count_of F.Store.cells S.Store.cells self.now ≤ address.0) × (e ≡ NoCell)) }
+        ensures { MatchResult result (λ p. (address.0 < count_of F.cells S.cells self.now) × (p ≡ place_in F.cells self.now address.0)) (λ e. (count_of F.cells S.cells self.now ≤ address.0) × (e ≡ NoCell)) }
     {
         if address.0 >= self.cell_count() {
             return Err(Fault::NoCell);
@@ -37,14 +37,14 @@ impl<F: Store, S: Store> Pair<F, S> {
 
     // The same, with the law of the address rule: the pair's cell is the one at that place.
     fn locate(&self, address: CellAddress) -> Result<Place, Fault>
-        ensures { MatchResult result (λ p. (p ≡ place_in F.Store.cells self.now address.0) × Lies self.now.rule (rows F.Store.cells S.Store.cells self.now) address.0 p) (λ e. (length (row F.Store.cells S.Store.cells self.now) ≤ address.0) × (e ≡ NoCell)) }
+        ensures { MatchResult result (λ p. (p ≡ place_in F.cells self.now address.0) × Lies self.now.rule (rows F.cells S.cells self.now) address.0 p) (λ e. (length (row F.cells S.cells self.now) ≤ address.0) × (e ≡ NoCell)) }
     {
         self.place(address)
     }
 
     fn put_whole_at(&mut self, place: Place, word: u32) -> Result<(), Fault>
-        ensures answer { result ≡ put_whole_answer (row_at (rows F.Store.cells S.Store.cells self.old) place) (address_in place) }
-        ensures lower { rows F.Store.cells S.Store.cells self.new ≡ (if is_ok result then set_in (rows F.Store.cells S.Store.cells self.old) place (good_cell word) else rows F.Store.cells S.Store.cells self.old) }
+        ensures answer { result ≡ put_whole_answer (row_at (rows F.cells S.cells self.old) place) (address_in place) }
+        ensures lower { rows F.cells S.cells self.new ≡ (if is_ok result then set_in (rows F.cells S.cells self.old) place (good_cell word) else rows F.cells S.cells self.old) }
         ensures other { OtherStays place self.old self.new }
         ensures rule { self.new.rule ≡ self.old.rule }
     {
@@ -55,8 +55,8 @@ impl<F: Store, S: Store> Pair<F, S> {
     }
 
     fn put_half_at(&mut self, place: Place, half: Half, value: u32) -> Result<(), Fault>
-        ensures answer { result ≡ put_half_answer (row_at (rows F.Store.cells S.Store.cells self.old) place) (address_in place) half }
-        ensures lower { rows F.Store.cells S.Store.cells self.new ≡ (if is_ok result then set_in (rows F.Store.cells S.Store.cells self.old) place (with_half (cell_in (rows F.Store.cells S.Store.cells self.old) place) half value) else rows F.Store.cells S.Store.cells self.old) }
+        ensures answer { result ≡ put_half_answer (row_at (rows F.cells S.cells self.old) place) (address_in place) half }
+        ensures lower { rows F.cells S.cells self.new ≡ (if is_ok result then set_in (rows F.cells S.cells self.old) place (with_half (cell_in (rows F.cells S.cells self.old) place) half value) else rows F.cells S.cells self.old) }
         ensures other { OtherStays place self.old self.new }
         ensures rule { self.new.rule ≡ self.old.rule }
     {
@@ -68,15 +68,15 @@ impl<F: Store, S: Store> Pair<F, S> {
 }
 
 impl<F: Store, S: Store> Store for Pair<F, S> {
-    ghost cells = { row F.Store.cells S.Store.cells };
+    ghost cells = { row F.cells S.cells };
 
-    ghost bounded = { λ s. pair_bounded s.rule (rows F.Store.cells S.Store.cells s) };
+    ghost bounded = { λ s. pair_bounded s.rule (rows F.cells S.cells s) };
 
-    ghost ranged = { λ s. pair_ranged s.rule (rows F.Store.cells S.Store.cells s) (F.Store.ranged s.first) (S.Store.ranged s.second) };
+    ghost ranged = { λ s. pair_ranged s.rule (rows F.cells S.cells s) (F.Store.ranged s.first) (S.Store.ranged s.second) };
 
     fn count(&self) -> u32
-        ensures row { result ≡ length (row F.Store.cells S.Store.cells self.now) }
-        ensures rule { result ≡ count_of F.Store.cells S.Store.cells self.now }
+        ensures row { result ≡ length (row F.cells S.cells self.now) }
+        ensures rule { result ≡ count_of F.cells S.cells self.now }
     {
         self.cell_count()
     }
@@ -89,11 +89,11 @@ impl<F: Store, S: Store> Store for Pair<F, S> {
     }
 
     fn put_whole(&mut self, address: CellAddress, word: u32) -> Result<(), Fault>
-        ensures answer { result ≡ put_whole_answer (row F.Store.cells S.Store.cells self.old) address.0 }
-        ensures after { row F.Store.cells S.Store.cells self.new ≡ (if is_ok result then whole_put (row F.Store.cells S.Store.cells self.old) address.0 word else row F.Store.cells S.Store.cells self.old) }
-        ensures count { length (row F.Store.cells S.Store.cells self.new) ≡ length (row F.Store.cells S.Store.cells self.old) }
-        ensures lower { rows F.Store.cells S.Store.cells self.new ≡ (if is_ok result then set_in (rows F.Store.cells S.Store.cells self.old) (place_in F.Store.cells self.old address.0) (good_cell word) else rows F.Store.cells S.Store.cells self.old) }
-        ensures other { OtherStays (place_in F.Store.cells self.old address.0) self.old self.new }
+        ensures answer { result ≡ put_whole_answer (row F.cells S.cells self.old) address.0 }
+        ensures after { row F.cells S.cells self.new ≡ (if is_ok result then whole_put (row F.cells S.cells self.old) address.0 word else row F.cells S.cells self.old) }
+        ensures count { length (row F.cells S.cells self.new) ≡ length (row F.cells S.cells self.old) }
+        ensures lower { rows F.cells S.cells self.new ≡ (if is_ok result then set_in (rows F.cells S.cells self.old) (place_in F.cells self.old address.0) (good_cell word) else rows F.cells S.cells self.old) }
+        ensures other { OtherStays (place_in F.cells self.old address.0) self.old self.new }
         ensures rule { self.new.rule ≡ self.old.rule }
     {
         let place = self.locate(address)?;
@@ -101,11 +101,11 @@ impl<F: Store, S: Store> Store for Pair<F, S> {
     }
 
     fn put_half(&mut self, address: CellAddress, half: Half, value: u32) -> Result<(), Fault>
-        ensures answer { result ≡ put_half_answer (row F.Store.cells S.Store.cells self.old) address.0 half }
-        ensures after { row F.Store.cells S.Store.cells self.new ≡ (if is_ok result then half_put (row F.Store.cells S.Store.cells self.old) address.0 half value else row F.Store.cells S.Store.cells self.old) }
-        ensures count { length (row F.Store.cells S.Store.cells self.new) ≡ length (row F.Store.cells S.Store.cells self.old) }
-        ensures lower { rows F.Store.cells S.Store.cells self.new ≡ (if is_ok result then set_in (rows F.Store.cells S.Store.cells self.old) (place_in F.Store.cells self.old address.0) (with_half (cell_in (rows F.Store.cells S.Store.cells self.old) (place_in F.Store.cells self.old address.0)) half value) else rows F.Store.cells S.Store.cells self.old) }
-        ensures other { OtherStays (place_in F.Store.cells self.old address.0) self.old self.new }
+        ensures answer { result ≡ put_half_answer (row F.cells S.cells self.old) address.0 half }
+        ensures after { row F.cells S.cells self.new ≡ (if is_ok result then half_put (row F.cells S.cells self.old) address.0 half value else row F.cells S.cells self.old) }
+        ensures count { length (row F.cells S.cells self.new) ≡ length (row F.cells S.cells self.old) }
+        ensures lower { rows F.cells S.cells self.new ≡ (if is_ok result then set_in (rows F.cells S.cells self.old) (place_in F.cells self.old address.0) (with_half (cell_in (rows F.cells S.cells self.old) (place_in F.cells self.old address.0)) half value) else rows F.cells S.cells self.old) }
+        ensures other { OtherStays (place_in F.cells self.old address.0) self.old self.new }
         ensures rule { self.new.rule ≡ self.old.rule }
     {
         let place = self.locate(address)?;

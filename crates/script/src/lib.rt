@@ -1,4 +1,6 @@
 // The console's script: what a line says, what it does to the memory, and what it answers.
+#![tactic(auto)]
+
 mod answer;
 mod line;
 mod number;

@@ -1,4 +1,6 @@
 // A store: a row of at most 131,072 cells with four functions. Code that is generic over a store knows it by this interface alone.
+#![tactic(auto)]
+
 ghost use Rattle.std.specs.Prelude.{◌≡◌, ℕ, ◌^◌, ◌<◌, ◌≤◌, List, length, is_ok, IfOk, if◌then◌else◌};
 ghost use Rattle.store.specs.Cells.{Cell, CellFits, cell_at, most_cells};
 ghost use Rattle.store.specs.Functions.{fetched, put_whole_answer, put_half_answer, whole_put, half_put};

@@ -8,8 +8,8 @@ use std::alloc::{AllocError, Global};
 
 // Does one function of a store.
 fn perform<S: Store>(store: &mut S, operation: Operation) -> Reply
-    ensures answer { result ≡ replied (cells store.old) operation }
-    ensures after { cells store.new ≡ left (cells store.old) operation }
+    ensures answer { result ≡ replied (S.cells store.old) operation }
+    ensures after { S.cells store.new ≡ left (S.cells store.old) operation }
 {
     match operation {
         Operation::Count => Reply::Counted(store.count()),
@@ -26,8 +26,8 @@ fn perform<S: Store>(store: &mut S, operation: Operation) -> Reply
 // Does one, and adds its answer to some that have the room.
 fn play_one<S: Store>(answers: &mut Vec<Reply>, store: &mut S, operation: Operation)
     requires { vec_len answers.old < vec_capacity answers.old }
-    ensures answers { answers.new.items ≡ answers.old.items ++ replied (cells store.old) operation ∷ [] }
-    ensures after { cells store.new ≡ left (cells store.old) operation }
+    ensures answers { answers.new.items ≡ answers.old.items ++ replied (S.cells store.old) operation ∷ [] }
+    ensures after { S.cells store.new ≡ left (S.cells store.old) operation }
     ensures len { vec_len answers.new ≡ vec_len answers.old + 1 }
     ensures capacity { vec_capacity answers.new ≡ vec_capacity answers.old }
 {
@@ -37,8 +37,8 @@ fn play_one<S: Store>(answers: &mut Vec<Reply>, store: &mut S, operation: Operat
 // Does a list of them, and adds the answers.
 fn play_into<S: Store>(answers: &mut Vec<Reply>, store: &mut S, operations: &[Operation])
     requires { vec_len answers.old + length operations.now ≤ vec_capacity answers.old }
-    ensures answers { answers.new.items ≡ answers.old.items ++ replies (cells store.old) operations.now }
-    ensures after { cells store.new ≡ left_by (cells store.old) operations.now }
+    ensures answers { answers.new.items ≡ answers.old.items ++ replies (S.cells store.old) operations.now }
+    ensures after { S.cells store.new ≡ left_by (S.cells store.old) operations.now }
 {
     for operation in operations {
         play_one(answers, store, *operation);
@@ -51,8 +51,8 @@ pub fn play<S: Store>(
     store: &mut S,
     operations: &[Operation],
 ) -> Result<Vec<Reply>, AllocError>
-    ensures answers { IfOk result (λ v. v.items ≡ replies (cells store.old) operations.now) }
-    ensures after { cells store.new ≡ (if is_ok result then left_by (cells store.old) operations.now else cells store.old) }
+    ensures answers { IfOk result (λ v. v.items ≡ replies (S.cells store.old) operations.now) }
+    ensures after { S.cells store.new ≡ (if is_ok result then left_by (S.cells store.old) operations.now else S.cells store.old) }
 {
     let mut answers = Vec::with_capacity(heap, operations.len())?;
     play_into(&mut answers, store, operations);
@@ -66,10 +66,10 @@ pub fn play_both<S: Store, T: Store>(
     second: &mut T,
     operations: &[Operation],
 ) -> Result<(Vec<Reply>, Vec<Reply>), AllocError>
-    ensures alike { IfOk result (λ p. Alike (S.Store.cells first.old) (T.Store.cells second.old) (S.Store.cells first.new) (T.Store.cells second.new) p.0.items p.1.items) }
-    ensures answers { IfOk result (λ p. (p.0.items ≡ replies (S.Store.cells first.old) operations.now) × (p.1.items ≡ replies (T.Store.cells second.old) operations.now)) }
-    ensures after_first { S.Store.cells first.new ≡ (if is_ok result then left_by (S.Store.cells first.old) operations.now else S.Store.cells first.old) }
-    ensures after_second { T.Store.cells second.new ≡ (if is_ok result then left_by (T.Store.cells second.old) operations.now else T.Store.cells second.old) }
+    ensures alike { IfOk result (λ p. Alike (S.cells first.old) (T.cells second.old) (S.cells first.new) (T.cells second.new) p.0.items p.1.items) }
+    ensures answers { IfOk result (λ p. (p.0.items ≡ replies (S.cells first.old) operations.now) × (p.1.items ≡ replies (T.cells second.old) operations.now)) }
+    ensures after_first { S.cells first.new ≡ (if is_ok result then left_by (S.cells first.old) operations.now else S.cells first.old) }
+    ensures after_second { T.cells second.new ≡ (if is_ok result then left_by (T.cells second.old) operations.now else T.cells second.old) }
 {
     let mut first_answers = Vec::with_capacity(heap, operations.len())?;
     let mut second_answers = Vec::with_capacity(heap, operations.len())?;

@@ -9,11 +9,11 @@ use super::{CellAddress, Fault, Half, Store};
 
 // Puts a word and fetches it again: the cell has the word's 30 bits, and every other cell what it had.
 pub fn probe_whole<S: Store>(store: &mut S, address: CellAddress, word: u32) -> Result<u32, Fault>
-    ensures answer { result ≡ (if nat_lt address.0 (length (cells store.old)) then Ok (word_bits word) else Err NoCell) }
-    ensures after { cells store.new ≡ (if is_ok result then whole_put (cells store.old) address.0 word else cells store.old) }
-    ensures same_cell { fetched (cells store.new) address.0 ≡ result }
-    ensures other_cells { (a : ℕ) → (a ≢ address.0) → fetched (cells store.new) a ≡ fetched (cells store.old) a }
-    ensures count { length (cells store.new) ≡ length (cells store.old) }
+    ensures answer { result ≡ (if nat_lt address.0 (length (S.cells store.old)) then Ok (word_bits word) else Err NoCell) }
+    ensures after { S.cells store.new ≡ (if is_ok result then whole_put (S.cells store.old) address.0 word else S.cells store.old) }
+    ensures same_cell { fetched (S.cells store.new) address.0 ≡ result }
+    ensures other_cells { (a : ℕ) → (a ≢ address.0) → fetched (S.cells store.new) a ≡ fetched (S.cells store.old) a }
+    ensures count { length (S.cells store.new) ≡ length (S.cells store.old) }
 {
     store.put_whole(address, word)?;
     store.fetch(address)
@@ -26,10 +26,10 @@ pub fn probe_half<S: Store>(
     half: Half,
     value: u32,
 ) -> Result<u32, Fault>
-    ensures answer { result ≡ (if nat_lt address.0 (length (cells store.old)) then word_of (with_half (cell_at (cells store.old) address.0) half value) else Err NoCell) }
-    ensures after { cells store.new ≡ (if is_ok result then half_put (cells store.old) address.0 half value else cells store.old) }
-    ensures other_cells { (a : ℕ) → (a ≢ address.0) → fetched (cells store.new) a ≡ fetched (cells store.old) a }
-    ensures count { length (cells store.new) ≡ length (cells store.old) }
+    ensures answer { result ≡ (if nat_lt address.0 (length (S.cells store.old)) then word_of (with_half (cell_at (S.cells store.old) address.0) half value) else Err NoCell) }
+    ensures after { S.cells store.new ≡ (if is_ok result then half_put (S.cells store.old) address.0 half value else S.cells store.old) }
+    ensures other_cells { (a : ℕ) → (a ≢ address.0) → fetched (S.cells store.new) a ≡ fetched (S.cells store.old) a }
+    ensures count { length (S.cells store.new) ≡ length (S.cells store.old) }
 {
     store.put_half(address, half, value)?;
     store.fetch(address)

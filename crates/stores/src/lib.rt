@@ -1,4 +1,6 @@
 // The stores: what lies under the row of cells.
+#![tactic(auto)]
+
 mod number;
 mod parity;
 mod sixteen;

@@ -1,4 +1,6 @@
 // 30-bit words and their 15-bit halves. Every function answers for every `u32`: of a word bits 29 to 0 count, of a half bits 14 to 0.
+#![tactic(auto)]
+
 ghost use Rattle.std.specs.Prelude.{◌≡◌, ◌^◌, ◌<◌};
 ghost use Rattle.words.specs.Words.{word_bits, half_bits, upper_half, lower_half, joined};
 

@@ -8,7 +8,7 @@ loop-index-preserved c = search (rules, played_on)
 
 pub returns-in-Err : goal.returns-in-Err
 returns-in-Err c =
-    let said = sym (ap line_bytes_of c.in-Err.is) ∙ c.in-ok-text.ensures.answer in
+    let said = sym (ap line_bytes_of c.in-Err.is) ∙ c.in_ok-text.ensures.answer in
     sym (played_bad _ _ c.args.lines.now c.loop-index.index (omega arith) _ _ said) ∙ c.loop-index.invariant
 
 pub returns : goal.returns

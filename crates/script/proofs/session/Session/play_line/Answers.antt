@@ -4,16 +4,16 @@ use Rattle.script.proofs.Spaced.{reads_again}
 use Rattle.script.proofs.Texts.{length_texts}
 use Rattle.script.proofs.session.Session.play_line.Goals as goal
 
-pub returns-in-err-words : goal.returns-in-err-words
-returns-in-err-words c = search (rules, reads_again)
+pub returns-in_err-words : goal.returns-in_err-words
+returns-in_err-words c = search (rules, reads_again)
 
-pub returns-then-is-empty : goal.returns-then-is-empty
+pub returns-then-is_empty : goal.returns-then-is_empty
 unfolding line_played line_left
-returns-then-is-empty c = search (rules, length_texts, reads_again)
+returns-then-is_empty c = search (rules, length_texts, reads_again)
 
-pub returns-in-err-text : goal.returns-in-err-text
+pub returns-in_err-text : goal.returns-in_err-text
 unfolding line_played line_left
-returns-in-err-text c = search (rules, length_texts, reads_again)
+returns-in_err-text c = search (rules, length_texts, reads_again)
 
 pub returns : goal.returns
 unfolding line_played line_left

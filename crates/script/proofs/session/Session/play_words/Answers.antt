@@ -6,14 +6,14 @@ pub returns-in-Err : goal.returns-in-Err
 unfolding said_by left_by
 returns-in-Err c = search rules
 
-pub returns-in-ok-write-line : goal.returns-in-ok-write-line
+pub returns-in_ok-write_line : goal.returns-in_ok-write_line
 unfolding said_by left_by
-returns-in-ok-write-line c = search rules
+returns-in_ok-write_line c = search rules
 
 pub returns-in-Err-2 : goal.returns-in-Err-2
 unfolding said_by left_by
 returns-in-Err-2 c = search rules
 
-pub returns-in-err-write-line : goal.returns-in-err-write-line
+pub returns-in_err-write_line : goal.returns-in_err-write_line
 unfolding said_by left_by
-returns-in-err-write-line c = search rules
+returns-in_err-write_line c = search rules
