@@ -4,7 +4,8 @@
 use anyhow::anyhow;
 use script::play;
 use std::io::{Read, Write};
-use std::{env, fs};
+use std::process::ExitCode;
+use std::{env, fs, io};
 
 // Writes a script's transcript; what stops the script is the error.
 fn show(rt: &HostRuntime, script: &[u8]) -> anyhow::Result<()> {
@@ -33,12 +34,12 @@ fn run(rt: &HostRuntime) -> anyhow::Result<()> {
     Ok(())
 }
 
-fn main(rt: HostRuntime) -> anyhow::Result<()> {
-    let ended = run(&rt);
-    if let Err(error) = &ended {
+fn main(rt: HostRuntime) -> io::Result<ExitCode> {
+    if let Err(error) = run(&rt) {
         eprintln!(rt; "{error}")?;
+        return Ok(ExitCode::FAILURE);
     }
-    ended
+    Ok(ExitCode::SUCCESS)
 }
 
 #[cfg(test)]

@@ -6,14 +6,14 @@ pub returns-in-Err : goal.returns-in-Err
 unfolding said_by left_by
 returns-in-Err c = search rules
 
-pub returns-in_ok-write_line : goal.returns-in_ok-write_line
+pub returns-in_ok-write_line-in-Ok-2 : goal.returns-in_ok-write_line-in-Ok-2
 unfolding said_by left_by
-returns-in_ok-write_line c = search rules
+returns-in_ok-write_line-in-Ok-2 c = search rules
 
 pub returns-in-Err-2 : goal.returns-in-Err-2
 unfolding said_by left_by
 returns-in-Err-2 c = search rules
 
-pub returns-in_err-write_line : goal.returns-in_err-write_line
+pub returns-in_err-write_line-in-Ok-2 : goal.returns-in_err-write_line-in-Ok-2
 unfolding said_by left_by
-returns-in_err-write_line c = search rules
+returns-in_err-write_line-in-Ok-2 c = search rules
