@@ -1,5 +1,4 @@
 -- The laws of a store, of whatever is shown by one.
-use Rattle.std.proofs.Common.{arith}
 use Rattle.std.specs.Prelude.{◌≤◌, length}
 use Rattle.store.specs.Cells.{most_cells}
 use Rattle.stores.specs.declared.parity.ParityStore.{ParityStore}
@@ -16,8 +15,8 @@ use Rattle.memories.specs.declared.any.AnyStore.TheVariants as any
 use Rattle.memories.specs.Any.{shown_by, row_of}
 
 pub bounded : (s : AnyStore) → length (row_of (shown_by s)) ≤ most_cells
-bounded (any.Word s) = omega (arith, words.length_row (word.numbers s))
-bounded (any.Parity s) = omega (arith, parities.length_row (parity.numbers s))
+bounded (any.Word s) = words.row_bounded (word.numbers s)
+bounded (any.Parity s) = parities.row_bounded (parity.numbers s)
 bounded (any.WordWord p) = pair_bounded p.rule (rows word.row word.row p)
 bounded (any.WordParity p) = pair_bounded p.rule (rows word.row parity.row p)
 bounded (any.ParityWord p) = pair_bounded p.rule (rows parity.row word.row p)

@@ -1,7 +1,6 @@
 -- Two rows made one: the row of a pair of stores, and the rule by which its addresses go to the two.
 use Rattle.std.specs.Prelude.{◌≡◌, ℕ, ◌+◌, ◌-◌, ◌*◌, ◌/◌, ◌%◌, ◌<◌, min, cond, List, [], ◌∷◌, ◌++◌, length, take, ◌==◌, nat_lt, slice_set}
 use Rattle.store.specs.Cells.{Cell, cell_at, most_cells}
-use Rattle.store.specs.declared.address.CellAddress.{CellAddress}
 use Rattle.pairs.specs.declared.pair.Pair.{Pair}
 use Rattle.pairs.specs.declared.place.Place.{Place}
 use Rattle.pairs.specs.declared.place.Place.TheVariants.{First, Second}

@@ -17,6 +17,9 @@ pub length_row : (xs : List ℕ) → length (row_of xs) ≡ cell_count xs
 unfolding row_of
 length_row xs = length_cut most_cells (paired xs) ∙ ap (λ n. min n most_cells) (length_paired xs)
 
+pub row_bounded : (xs : List ℕ) → length (row_of xs) ≤ most_cells
+row_bounded xs = omega (arith, length_row xs)
+
 -- the numbers of a cell stand in the memory
 pub index_within : (xs : List ℕ) (a : ℕ) (h : Half) → a < cell_count xs → index_of a h < length xs
 index_within xs a Upper low = omega arith

@@ -1,5 +1,5 @@
 -- The laws of the word store's row: its length, its cells, and what a changed number changes.
-use Rattle.std.specs.Prelude.{◌≡◌, ℕ, ◌<◌, List, length, get_or, slice_index, slice_index_or, slice_set}
+use Rattle.std.specs.Prelude.{◌≡◌, ℕ, ◌<◌, ◌≤◌, List, length, get_or, slice_index, slice_index_or, slice_set}
 use Rattle.std.proofs.Common.{sym, subst, arith}
 use Rattle.std.proofs.lemmas.List.{get_or_default, get_or_read}
 use Rattle.store.specs.Cells.{cell_at, CellFits, good_cell, most_cells}
@@ -9,6 +9,9 @@ use Rattle.stores.specs.Mapped.{length_mapped, mapped_at, mapped_set}
 pub length_row : (xs : List ℕ) → length (row_of xs) ≡ cell_count xs
 unfolding row_of
 length_row xs = length_mapped cell_of most_cells xs
+
+pub row_bounded : (xs : List ℕ) → length (row_of xs) ≤ most_cells
+row_bounded xs = omega (arith, length_row xs)
 
 module _ (xs : List ℕ) (a : ℕ) (within : a < length (row_of xs)) where
   pub row_at : (x : ℕ) → x ≡ slice_index_or xs a x → cell_at (row_of xs) a ≡ cell_of x

@@ -4,8 +4,7 @@ ghost use Rattle.store.specs.Cells.{cell_at, part};
 ghost use Rattle.store.specs.declared.fault.Fault.TheVariants.{NoCell};
 ghost use Rattle.store.specs.Functions.{put_whole_answer, put_half_answer, whole_put, half_put};
 ghost use Rattle.stores.specs.Parity.{half_of, numbers, row, cell_count, index_of, half_written, whole_written, number_replaced};
-ghost use Rattle.std.proofs.Common.{arith};
-ghost use Rattle.stores.specs.ParityRow.{length_row, row_fits};
+ghost use Rattle.stores.specs.ParityRow.{row_bounded, row_fits};
 
 use super::sixteen;
 use store::{CellAddress, Fault, Half, Store};
@@ -118,7 +117,7 @@ impl ParityStore {
 impl Store for ParityStore {
     ghost cells = { row };
 
-    ghost bounded = { λ s. omega (arith, length_row (numbers s)) };
+    ghost bounded = { λ s. row_bounded (numbers s) };
 
     ghost ranged = { λ s a within. row_fits (numbers s) a within };
 

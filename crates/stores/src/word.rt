@@ -5,8 +5,7 @@ ghost use Rattle.store.specs.Cells.{cell_at};
 ghost use Rattle.store.specs.declared.fault.Fault.TheVariants.{NoCell};
 ghost use Rattle.store.specs.Functions.{put_whole_answer, put_half_answer, whole_put, half_put};
 ghost use Rattle.stores.specs.Word.{cell_of, numbers, row, cell_count, half_written};
-ghost use Rattle.std.proofs.Common.{arith};
-ghost use Rattle.stores.specs.WordRow.{length_row, row_fits};
+ghost use Rattle.stores.specs.WordRow.{row_bounded, row_fits};
 
 use super::number;
 use store::{CellAddress, Fault, Half, Store};
@@ -89,7 +88,7 @@ impl WordStore {
 impl Store for WordStore {
     ghost cells = { row };
 
-    ghost bounded = { λ s. omega (arith, length_row (numbers s)) };
+    ghost bounded = { λ s. row_bounded (numbers s) };
 
     ghost ranged = { λ s a within. row_fits (numbers s) a within };
 
