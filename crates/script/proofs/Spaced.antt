@@ -2,7 +2,7 @@
 use Rattle.std.proofs.Common.{◌≡◌, ℕ, ◌+◌, ◌<◌, ◌≤◌, List, [], ◌∷◌, ◌++◌, length, get_or, take, sym, refl, ap, ◌∙◌, append_assoc, append-nil, arith, Bor}
 use Rattle.std.proofs.lemmas.List.{flat_map_more, take_all, take_more}
 use Rattle.std.proofs.lemmas.Bool.{ne_eqb}
-use Rattle.std.specs.List.{AllByRecursion as All}
+use Rattle.std.specs.List.{AllByRecursion}
 use Rattle.script.specs.Line.{begun, words_after, words_of, texts, Plain, Word}
 use Rattle.script.specs.Play.{ReadsAgain}
 use Rattle.script.specs.Transcript.{spaced}
@@ -27,13 +27,13 @@ pub spaced_all : (ws : List (Bor (List ℕ))) (i : ℕ) → length ws ≤ i → 
 spaced_all ws i h = ap spaced (take_all i (texts ws) (omega (arith, length_texts ws)))
 
 -- a word and a space after it
-word_read : (w v rest : List ℕ) → All Plain w → words_after v (w ++ 32 ∷ rest) ≡ begun (v ++ w) ++ words_of rest
+word_read : (w v rest : List ℕ) → AllByRecursion Plain w → words_after v (w ++ 32 ∷ rest) ≡ begun (v ++ w) ++ words_of rest
 word_read [] v rest h = ap (λ l. begun l ++ words_of rest) (sym (append-nil v))
 word_read (c ∷ w) v rest h =
     rw (ne_eqb c 35 h.0.1, ne_eqb c 32 h.0.0)
     (word_read w (v ++ c ∷ []) rest h.1 ∙ ap (λ l. begun l ++ words_of rest) (append_assoc v (c ∷ []) w))
 
-spaced_again : (ws : List (List ℕ)) → All Word ws → words_of (spaced ws) ≡ ws
+spaced_again : (ws : List (List ℕ)) → AllByRecursion Word ws → words_of (spaced ws) ≡ ws
 unfolding spaced
 spaced_again [] h = refl
 spaced_again ([] ∷ ws) h = absurd (omega (arith, h.0.0))

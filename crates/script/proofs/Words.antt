@@ -1,6 +1,6 @@
 -- The words of a line, one byte and one word at a time.
 use Rattle.std.proofs.Common.{◌≡◌, ℕ, ◌+◌, ◌-◌, ◌<◌, ◌≤◌, eqb, ◌⊎◌, List, [], ◌∷◌, ◌++◌, length, get_or, take, drop, sym, refl, ap, ◌∙◌, ⊎_elim, append_assoc, append-nil, arith}
-use Rattle.std.specs.List.{AllByRecursion as All}
+use Rattle.std.specs.List.{AllByRecursion}
 use Rattle.std.proofs.ByRecursion.{All-append, All-push}
 use Rattle.std.proofs.lemmas.List.{drop_all, drop_more, take_more, take_rest}
 use Rattle.std.proofs.lemmas.Bool.{cond_both, eqb-false, ne_eqb}
@@ -35,14 +35,14 @@ pub one_more : (ws : List (List ℕ)) (word rest after all : List ℕ) → ws ++
 one_more ws [] rest after all h e some = absurd (omega arith)
 one_more ws (c ∷ w) rest after all h e some = append_assoc ws ((c ∷ w) ∷ []) (words_of after) ∙ ap (λ l. ws ++ l) (sym e) ∙ h
 
-begun_word : (w : List ℕ) → All Plain w → All Word (begun w)
+begun_word : (w : List ℕ) → AllByRecursion Plain w → AllByRecursion Word (begun w)
 begun_word [] h = tt
 begun_word (c ∷ w) h = ((omega arith, h), tt)
 
-pub all_words : (w line : List ℕ) → All Plain w → All Word (words_after w line)
+pub all_words : (w line : List ℕ) → AllByRecursion Plain w → AllByRecursion Word (words_after w line)
 all_words w [] h = begun_word w h
 all_words w (c ∷ cs) h =
-    cond_both (eqb c 35) _ _ (All Word) (λ _. begun_word w h)
-    (λ p. cond_both (eqb c 32) _ _ (All Word)
+    cond_both (eqb c 35) _ _ (AllByRecursion Word) (λ _. begun_word w h)
+    (λ p. cond_both (eqb c 32) _ _ (AllByRecursion Word)
     (λ _. All-append Word (begun w) (words_of cs) (begun_word w h) (all_words [] cs tt))
     (λ q. all_words (w ++ c ∷ []) cs (All-push Plain w c h (eqb-false c 32 q, eqb-false c 35 p))))

@@ -1,7 +1,7 @@
 -- The lines of a script and the words of a line.
 use Rattle.std.specs.Prelude.{ℕ, ◌<◌, cond, List, [], ◌∷◌, ◌++◌, map, length, ◌==◌, ◌≢◌}
 use Rattle.std.specs.Borrow.{Bor}
-use Rattle.std.specs.List.{AllByRecursion as All}
+use Rattle.std.specs.List.{AllByRecursion}
 
 -- a word or a line that has begun, if it has any byte
 abbrev pub begun : List ℕ → List (List ℕ)
@@ -35,4 +35,4 @@ Plain c = (c ≢ 32) × (c ≢ 35)
 
 -- one byte or more, and no space or # among them
 abbrev pub Word : List ℕ → Type 0
-Word w = (0 < length w) × All Plain w
+Word w = (0 < length w) × AllByRecursion Plain w

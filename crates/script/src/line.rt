@@ -1,6 +1,6 @@
 // The lines of a script, and the words of a line: what stands between spaces, before any `#`.
 ghost use Rattle.std.specs.Prelude.{◌≡◌, ◌<◌, ◌≤◌, ◌||◌, ◌∷◌, ◌++◌, length, take, drop, IfOk, ◌==◌, ◌≢◌, slice_index};
-ghost use Rattle.std.specs.List.{AllByRecursion as All};
+ghost use Rattle.std.specs.List.{AllByRecursion};
 ghost use Rattle.script.specs.Line.{begun, words_of, lines_of, texts, Word};
 
 use std::alloc::{AllocError, Global};
@@ -29,7 +29,7 @@ fn word_len(line: &[u8]) -> usize
 // The words, as parts of the line.
 pub fn split_words<'a>(heap: Global, line: &'a [u8]) -> Result<Vec<&'a [u8]>, AllocError>
     ensures words { IfOk result (λ v. texts v.items ≡ words_of line.now) }
-    ensures plain { IfOk result (λ v. All Word (texts v.items)) }
+    ensures plain { IfOk result (λ v. AllByRecursion Word (texts v.items)) }
 {
     let mut words = Vec::new(heap);
     let mut rest = line;
