@@ -4,8 +4,7 @@
 demo:
 	@mkdir -p target
 	@echo "Proving and building the console; the first time takes some minutes (log: target/demo.log)."
-	@rt check console > target/demo.log 2>&1 || { tail -n 20 target/demo.log; exit 1; }
-	@target/bin/console < examples/store.script
+	@cd crates/console && rt run < ../../examples/store.script 2> ../../target/demo.log || { tail -n 20 ../../target/demo.log; exit 1; }
 
 test:
 	@.ci/run
