@@ -1,8 +1,3 @@
-mod Digits
 mod Following
 mod Later
-mod Lines
-mod Prefixes
 mod Spaced
-mod Texts
-mod Words

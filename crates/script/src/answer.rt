@@ -3,15 +3,12 @@ ghost use Rattle.std.specs.Prelude.{Some};
 ghost use Rattle.script.specs.Transcript.{answer_text};
 
 use std::fmt;
-use store::Fault;
-use words::OctalWord;
+use store::Reply;
 
 #[derive(Clone, Copy, Debug, PartialEq)]
 pub enum Answer {
     Done,
-    Count(u32),
-    Word(u32),
-    Fault(Fault),
+    Reply(Reply),
 }
 
 impl fmt::Display for Answer {
@@ -20,12 +17,7 @@ impl fmt::Display for Answer {
     fn fmt<W: fmt::Write>(&self, f: &mut fmt::Formatter<W>) -> fmt::Result {
         match *self {
             Answer::Done => write!(f, "ok"),
-            Answer::Count(count) => write!(f, "{count}"),
-            Answer::Word(word) => {
-                let word = OctalWord(word);
-                write!(f, "{word}")
-            }
-            Answer::Fault(fault) => write!(f, "{fault}"),
+            Answer::Reply(reply) => write!(f, "{reply}"),
         }
     }
 }

@@ -2,7 +2,7 @@
 ghost use Rattle.std.specs.Prelude.{Some};
 ghost use Rattle.script.specs.Transcript.{problem_text};
 
-use crate::reason::Reason;
+use reader::Reason;
 use std::fmt;
 
 #[derive(Clone, Copy, Debug, PartialEq)]

@@ -1,0 +1,5 @@
+mod Digits
+mod Lines
+mod Prefixes
+pub mod Texts
+pub mod Words
