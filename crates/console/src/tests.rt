@@ -1,12 +1,11 @@
 // What the library reads and answers, bad lines too.
-use memories::{Kind, Layout, Part, Side};
-use pairs::Rule;
-use reader::{Reason, Statement, read_number, read_statement, split_words};
-use script::{Answer, Problem, Session, play};
+use script::{
+    Answer, Problem, Reason, Session, Statement, play, read_number, read_statement, split_words,
+};
 use std::alloc::{AllocError, Global};
 use std::process::Abort;
 use std::test::Fail;
-use store::{CellAddress, Half, Operation, Reply};
+use store::{CellAddress, Half};
 
 #[test]
 fn numbers(rt: HostRuntime) {
@@ -59,131 +58,72 @@ fn words(rt: HostRuntime) -> Result<(), Fail> {
     check_words(&rt, heap, b"  load  0x10 b  ", &[b"load", b"0x10", b"b"])
 }
 
-fn read(heap: Global, line: &[u8]) -> Result<Result<Statement, Reason>, AllocError> {
-    let words = split_words(heap, line)?;
-    Ok(read_statement(words.as_slice()))
-}
-
 #[test]
 fn statements(rt: HostRuntime) -> Result<(), Fail> {
-    let heap = rt.alloc();
+    let words = split_words(rt.alloc(), b"put-half 0o17 lower 9")?;
     assert_eq!(rt;
-        read(heap, b"put-half 0o17 lower 9")?,
-        Ok(Statement::Operation(Operation::PutHalf {
+        read_statement(words.as_slice()),
+        Ok(Statement::PutHalf {
             address: CellAddress(15),
             half: Half::Lower,
             value: 9,
-        }))
-    );
-    assert_eq!(rt;
-        read(heap, b"memory interleaved parity 7 word 0o10")?,
-        Ok(Statement::Memory(Layout::Pair {
-            rule: Rule::Interleaved,
-            first: Part {
-                kind: Kind::Parity,
-                size: 7,
-            },
-            second: Part {
-                kind: Kind::Word,
-                size: 8,
-            },
-        }))
-    );
-    assert_eq!(rt;
-        read(heap, b"raw second 3 5")?,
-        Ok(Statement::Raw {
-            side: Side::Second,
-            index: 3,
-            value: 5,
         })
     );
-    assert_eq!(rt; read(heap, b"")?, Err(Reason::WordCount));
+    assert_eq!(rt; read_statement(&[]), Err(Reason::WordCount));
     Ok(())
 }
 
 #[test]
 fn a_statement_before_the_memory(rt: HostRuntime) -> Result<(), Fail> {
     let mut session = Session::new();
-    let count = Statement::Operation(Operation::Count);
-    assert_eq!(rt; session.perform(rt.alloc(), count)?, Err(Reason::NoMemory));
-    let words = Part {
-        kind: Kind::Word,
-        size: 262_144,
-    };
     assert_eq!(rt;
-        session.perform(rt.alloc(), Statement::Memory(Layout::Single(words)))?,
+        session.perform(rt.alloc(), Statement::Count)?,
+        Err(Reason::NoMemory)
+    );
+    assert_eq!(rt;
+        session.perform(rt.alloc(), Statement::Memory(262_144))?,
         Ok(Answer::Done)
     );
     assert_eq!(rt;
-        session.perform(rt.alloc(), count)?,
-        Ok(Answer::Reply(Reply::Counted(131_072)))
+        session.perform(rt.alloc(), Statement::Count)?,
+        Ok(Answer::Count(131_072))
     );
     Ok(())
 }
 
-// What line 2 comes to after a first line.
-fn second_line(
-    heap: Global,
-    first: &[u8],
-    line: &[u8],
-) -> Result<Result<Option<Vec<u8>>, Problem>, AllocError> {
+// What line 2 comes to after a memory of two numbers.
+fn second_line(heap: Global, line: &[u8]) -> Result<Result<Option<Vec<u8>>, Problem>, AllocError> {
     let mut session = Session::new();
-    let _ = session.play_line(heap, 1, first)?;
+    let _ = session.play_line(heap, 1, b"memory word 2")?;
     session.play_line(heap, 2, line)
 }
 
 #[test]
 fn bad_lines(rt: HostRuntime) -> Result<(), Fail> {
-    let lines: [(&[u8], Reason); 24] = [
+    let lines: [(&[u8], Reason); 18] = [
         (b"install", Reason::UnknownWord),
         (b"Count", Reason::UnknownWord),
-        (b"memory card 2", Reason::UnknownWord),
-        (b"memory interleaved word 2 card 2", Reason::UnknownWord),
+        (b"memory parity 2", Reason::UnknownWord),
         (b"put-half 0 middle 1", Reason::UnknownWord),
         (b"count\t", Reason::UnknownWord),
         (b"memory", Reason::WordCount),
         (b"memory word", Reason::WordCount),
-        (b"memory parity 2 word 2", Reason::WordCount),
-        (b"memory continuous word 2", Reason::WordCount),
         (b"count 1", Reason::WordCount),
         (b"fetch", Reason::WordCount),
         (b"raw 0", Reason::WordCount),
-        (b"raw second 0", Reason::WordCount),
         (b"put 0 1 2", Reason::WordCount),
         (b"put-half 0 upper", Reason::WordCount),
         (b"fetch one", Reason::NotANumber),
         (b"put 0 0o9", Reason::NotANumber),
-        (b"raw second second 0", Reason::NotANumber),
         (b"fetch 4294967296", Reason::TooLarge),
-        (b"memory parity 1", Reason::SecondMemory),
-        (b"memory parity 262145", Reason::OutOfRange),
+        (b"memory word 1", Reason::SecondMemory),
+        (b"memory word 262145", Reason::OutOfRange),
         (b"raw 2 0", Reason::OutOfRange),
-        (b"raw second 0 0", Reason::OutOfRange),
     ];
     for (line, reason) in lines {
         assert_eq!(rt;
-            second_line(rt.alloc(), b"memory word 2", line)?,
+            second_line(rt.alloc(), line)?,
             Err(Problem { line: 2, reason })
-        );
-    }
-    Ok(())
-}
-
-#[test]
-fn numbers_out_of_range_in_a_pair(rt: HostRuntime) -> Result<(), Fail> {
-    let lines: [&[u8]; 4] = [
-        b"raw 2 0",
-        b"raw second 3 0",
-        b"raw second 0 65536",
-        b"raw second 0xffffffff 0",
-    ];
-    for line in lines {
-        assert_eq!(rt;
-            second_line(rt.alloc(), b"memory continuous word 2 parity 3", line)?,
-            Err(Problem {
-                line: 2,
-                reason: Reason::OutOfRange,
-            })
         );
     }
     Ok(())
@@ -192,13 +132,10 @@ fn numbers_out_of_range_in_a_pair(rt: HostRuntime) -> Result<(), Fail> {
 #[test]
 fn good_lines(rt: HostRuntime) -> Result<(), Fail> {
     let heap = rt.alloc();
+    assert_eq!(rt; second_line(heap, b" # nothing")?, Ok(None));
     assert_eq!(rt;
-        second_line(heap, b"memory word 2", b" # nothing")?,
-        Ok(None)
-    );
-    assert_eq!(rt;
-        second_line(heap, b"memory word 2", b"raw  1 0xffffffff ")?,
-        Ok(Some(b"raw 1 0xffffffff -> ok".to_vec(heap)?))
+        second_line(heap, b"raw  1 0 ")?,
+        Ok(Some(b"raw 1 0 -> ok".to_vec(heap)?))
     );
     Ok(())
 }

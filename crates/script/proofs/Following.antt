@@ -1,14 +1,13 @@
 -- Lines that are played one after another: one that goes on, one with a problem, and none left.
 use Rattle.std.proofs.Common.{◌≡◌, ℕ, ◌+◌, ◌<◌, ◌≤◌, List, [], ◌∷◌, length, get_or, drop, Some, None, Ok, Err, Option, sym, ap, ◌∙◌, arith, Bor}
 use Rattle.std.proofs.lemmas.List.{at_drop_more, at_drop_all}
-use Rattle.memories.specs.Setup.{Memory}
 use Rattle.script.specs.declared.problem.Problem.{Problem}
-use Rattle.reader.specs.Line.{texts}
+use Rattle.script.specs.Line.{texts}
 use Rattle.script.specs.Play.{line_played, line_left}
 use Rattle.script.specs.Script.{grown, lines_played}
-use Rattle.reader.proofs.Texts.{length_texts, text_at}
+use Rattle.script.proofs.Texts.{length_texts, text_at}
 
-module _ (t : List ℕ) (memory : Option Memory) (ls : List (Bor (List ℕ))) (i : ℕ) where
+module _ (t : List ℕ) (memory : Option (List ℕ)) (ls : List (Bor (List ℕ))) (i : ℕ) where
   module _ (within : i < length ls) (d : Bor (List ℕ)) where
     here : lines_played t memory (i + 1) (drop i (texts ls)) ≡ lines_played t memory (i + 1) ((get_or ls i d).now ∷ drop (i + 1) (texts ls))
     here =

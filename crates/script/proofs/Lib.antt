@@ -1,3 +1,8 @@
+mod Digits
 mod Following
 mod Later
+mod Lines
+mod Prefixes
 mod Spaced
+mod Texts
+mod Words

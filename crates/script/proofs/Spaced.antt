@@ -3,11 +3,11 @@ use Rattle.std.proofs.Common.{◌≡◌, ℕ, ◌+◌, ◌<◌, ◌≤◌, List,
 use Rattle.std.proofs.lemmas.List.{flat_map_more, take_all, take_more}
 use Rattle.std.proofs.lemmas.Bool.{ne_eqb}
 use Rattle.std.specs.List.{AllByRecursion}
-use Rattle.reader.specs.Line.{begun, words_after, words_of, texts, Plain, Word}
+use Rattle.script.specs.Line.{begun, words_after, words_of, texts, Plain, Word}
 use Rattle.script.specs.Play.{ReadsAgain}
 use Rattle.script.specs.Transcript.{spaced}
-use Rattle.reader.proofs.Texts.{length_texts, text_at}
-use Rattle.reader.proofs.Words.{all_words}
+use Rattle.script.proofs.Texts.{length_texts, text_at}
+use Rattle.script.proofs.Words.{all_words}
 
 pub spaced_none : spaced [] ≡ []
 unfolding spaced

@@ -1,9 +1,8 @@
 -- What a whole script comes to: the transcript of its lines, up to the first that has a problem.
 use Rattle.std.specs.Prelude.{◌≡◌, ℕ, ◌+◌, List, [], ◌∷◌, ◌++◌, Some, None, Ok, Err, vec_items, Option, Result}
-use Rattle.memories.specs.Setup.{Memory}
 use Rattle.script.specs.declared.player.Played.{Played}
 use Rattle.script.specs.declared.problem.Problem.{Problem}
-use Rattle.reader.specs.Line.{lines_of}
+use Rattle.script.specs.Line.{lines_of}
 use Rattle.script.specs.Play.{line_played, line_left}
 
 pub record Outcome : Type 0 where
@@ -24,7 +23,7 @@ goes_on t (Ok text) rest = rest (grown t text)
 goes_on t (Err p) rest = record { transcript = t; problem = Some p }
 
 -- lines, of which the first has a number, after the transcript t
-unfoldable pub lines_played : List ℕ → Option Memory → ℕ → List (List ℕ) → Outcome
+unfoldable pub lines_played : List ℕ → Option (List ℕ) → ℕ → List (List ℕ) → Outcome
 lines_played t memory number [] = record { transcript = t; problem = None }
 lines_played t memory number (line ∷ lines) = goes_on t (line_played memory number line) (λ u. lines_played u (line_left memory line) (number + 1) lines)
 

@@ -1,15 +1,28 @@
 -- The text of answers and problems, and a line of the transcript.
 use Rattle.std.specs.Prelude.{ℕ, List, [], ◌∷◌, ◌++◌, codes, decimal}
 use Rattle.std.specs.List.{flat_map}
-use Rattle.store.specs.Text.{reply_text}
+use Rattle.words.specs.Octal.{octal_word}
+use Rattle.store.specs.Text.{fault_text}
 use Rattle.script.specs.declared.answer.Answer.{Answer}
 use Rattle.script.specs.declared.answer.Answer.TheVariants as answer
 use Rattle.script.specs.declared.problem.Problem.{Problem}
-use Rattle.reader.specs.Reason.{reason_text}
+use Rattle.script.specs.declared.reason.Reason.{Reason}
+use Rattle.script.specs.declared.reason.Reason.TheVariants.{UnknownWord, WordCount, NotANumber, TooLarge, NoMemory, SecondMemory, OutOfRange}
 
 abbrev pub answer_text : Answer → List ℕ
 answer_text answer.Done = codes "ok"
-answer_text (answer.Reply r) = reply_text r
+answer_text (answer.Count n) = decimal n
+answer_text (answer.Word w) = octal_word w
+answer_text (answer.Fault f) = fault_text f
+
+abbrev pub reason_text : Reason → List ℕ
+reason_text UnknownWord = codes "unknown word"
+reason_text WordCount = codes "wrong number of words"
+reason_text NotANumber = codes "not a number"
+reason_text TooLarge = codes "number of 2^32 or more"
+reason_text NoMemory = codes "no memory yet"
+reason_text SecondMemory = codes "a second memory"
+reason_text OutOfRange = codes "number out of range"
 
 abbrev pub problem_text : Problem → List ℕ
 problem_text p = codes "line " ++ (decimal p.line ++ (codes ": " ++ reason_text p.reason))

@@ -3,12 +3,15 @@ ghost use Rattle.std.specs.Prelude.{Some};
 ghost use Rattle.script.specs.Transcript.{answer_text};
 
 use std::fmt;
-use store::Reply;
+use store::Fault;
+use words::OctalWord;
 
 #[derive(Clone, Copy, Debug, PartialEq)]
 pub enum Answer {
     Done,
-    Reply(Reply),
+    Count(u32),
+    Word(u32),
+    Fault(Fault),
 }
 
 impl fmt::Display for Answer {
@@ -17,7 +20,12 @@ impl fmt::Display for Answer {
     fn fmt<W: fmt::Write>(&self, f: &mut fmt::Formatter<W>) -> fmt::Result {
         match *self {
             Answer::Done => write!(f, "ok"),
-            Answer::Reply(reply) => write!(f, "{reply}"),
+            Answer::Count(count) => write!(f, "{count}"),
+            Answer::Word(word) => {
+                let word = OctalWord(word);
+                write!(f, "{word}")
+            }
+            Answer::Fault(fault) => write!(f, "{fault}"),
         }
     }
 }

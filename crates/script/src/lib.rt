@@ -1,13 +1,22 @@
-// The console's script as it is played: what its statements do to the memory, what they answer, and the transcript.
+// The console's script: what a line says, what it does to the memory, and what it answers.
 #![tactic(auto)]
 
 mod answer;
+mod line;
+mod number;
 mod player;
 mod problem;
+mod reason;
 mod session;
+mod statement;
 mod transcript;
+mod verb;
 
 pub use answer::Answer;
+pub use line::split_words;
+pub use number::read_number;
 pub use player::{Played, play};
 pub use problem::Problem;
+pub use reason::Reason;
 pub use session::Session;
+pub use statement::{Statement, read_statement};

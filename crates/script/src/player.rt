@@ -1,12 +1,12 @@
 // A whole script.
 ghost use Rattle.std.specs.Prelude.{◌≡◌, [], IfOk, None, vec_items, OnOk};
 ghost use Rattle.std.specs.Option.{option_map};
-ghost use Rattle.reader.specs.Line.{texts};
+ghost use Rattle.script.specs.Line.{texts};
 ghost use Rattle.script.specs.Script.{grown, told_by, lines_played, script_played, TranscriptStays};
 
+use crate::line::split_lines;
 use crate::problem::Problem;
 use crate::session::Session;
-use reader::split_lines;
 use std::alloc::{AllocError, Global};
 
 // What a script comes to: the transcript up to its end or its first bad line, and what is wrong with that.

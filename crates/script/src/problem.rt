@@ -2,7 +2,7 @@
 ghost use Rattle.std.specs.Prelude.{Some};
 ghost use Rattle.script.specs.Transcript.{problem_text};
 
-use reader::Reason;
+use crate::reason::Reason;
 use std::fmt;
 
 #[derive(Clone, Copy, Debug, PartialEq)]

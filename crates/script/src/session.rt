@@ -1,17 +1,40 @@
 // What statements do: the console's memory, made by the first of them.
 ghost use Rattle.std.specs.Prelude.{◌≡◌, ◌⊎◌, is_ok, IfOk, if◌then◌else◌, None, Ok, MatchResult, OnErr};
 ghost use Rattle.script.specs.declared.answer.Answer.TheVariants.{Done};
-ghost use Rattle.memories.specs.Setup.{memory_of as setup_memory};
-ghost use Rattle.reader.specs.Line.{texts};
+ghost use Rattle.stores.specs.Word.{numbers};
+ghost use Rattle.script.specs.Line.{texts};
 ghost use Rattle.script.specs.Play.{bytes_of, said_by, left_by, line_bytes_of, numbered, line_played, line_left, ReadsAgain};
-ghost use Rattle.script.specs.Session.{memory_of, answered, left, answered_on, left_on};
+ghost use Rattle.script.specs.Session.{memory_of, fetch_said, put_said, answered, left, answered_on, left_on};
 
 use crate::answer::Answer;
+use crate::line::split_words;
 use crate::problem::Problem;
+use crate::reason::Reason;
+use crate::statement::{Statement, read_statement};
 use crate::transcript::write_line;
-use memories::Setup;
-use reader::{Reason, Statement, read_statement, split_words};
 use std::alloc::{AllocError, Global};
+use store::{Fault, Store};
+use stores::WordStore;
+
+// What a put answers.
+fn put_answer(answer: Result<(), Fault>) -> Answer
+    ensures { result ≡ put_said answer }
+{
+    match answer {
+        Ok(()) => Answer::Done,
+        Err(fault) => Answer::Fault(fault),
+    }
+}
+
+// What a fetch answers.
+fn fetch_answer(answer: Result<u32, Fault>) -> Answer
+    ensures { result ≡ fetch_said answer }
+{
+    match answer {
+        Ok(word) => Answer::Word(word),
+        Err(fault) => Answer::Fault(fault),
+    }
+}
 
 // A line's text; what is wrong with a line is told with its number.
 fn at_line(number: u64, text: Result<Vec<u8>, Reason>) -> Result<Option<Vec<u8>>, Problem>
@@ -28,7 +51,7 @@ fn at_line(number: u64, text: Result<Vec<u8>, Reason>) -> Result<Option<Vec<u8>>
 
 #[derive(Drop)]
 pub struct Session {
-    setup: Option<Setup>,
+    store: Option<WordStore>,
 }
 
 impl Session {
@@ -36,7 +59,7 @@ impl Session {
     pub fn new() -> Session
         ensures { memory_of result ≡ None }
     {
-        Session { setup: None }
+        Session { store: None }
     }
 
     // Does a statement. Only a new memory for which there is no room is an outer error, and leaves everything.
@@ -49,8 +72,8 @@ impl Session {
         ensures refusal { OnErr result ((memory_of self.old ≡ None) × (answered None statement ≡ Ok Done)) }
         ensures after { memory_of self.new ≡ (if is_ok result then left (memory_of self.old) statement else memory_of self.old) }
     {
-        match &mut self.setup {
-            Some(setup) => Ok(on_setup(setup, statement)),
+        match &mut self.store {
+            Some(store) => Ok(on_store(store, statement)),
             None => self.make(heap, statement),
         }
     }
@@ -104,24 +127,32 @@ impl Session {
         ensures refusal { OnErr result (answered None statement ≡ Ok Done) }
         ensures after { memory_of self.new ≡ (if is_ok result then left None statement else None) }
     {
-        let Statement::Memory(layout) = statement else {
+        let Statement::Memory(size) = statement else {
             return Ok(Err(Reason::NoMemory));
         };
-        self.setup = Some(Setup::new(heap, layout)?);
+        let memory = vec![in heap; 0u32; size as usize]?;
+        self.store = Some(WordStore::new(memory));
         Ok(Ok(Answer::Done))
     }
 }
 
-fn on_setup(setup: &mut Setup, statement: Statement) -> Result<Answer, Reason>
-    ensures answer { result ≡ answered_on (setup_memory setup.old) statement }
-    ensures after { setup_memory setup.new ≡ left_on (setup_memory setup.old) statement }
+fn on_store(store: &mut WordStore, statement: Statement) -> Result<Answer, Reason>
+    ensures answer { result ≡ answered_on (numbers store.old) statement }
+    ensures after { numbers store.new ≡ left_on (numbers store.old) statement }
 {
     match statement {
         Statement::Memory(_) => Err(Reason::SecondMemory),
-        Statement::Raw { side, index, value } => match setup.replace_number(side, index, value) {
-            Ok(()) => Ok(Answer::Done),
-            Err(_) => Err(Reason::OutOfRange),
+        Statement::Raw { index, value } => match store.replace_number(index, value) {
+            Some(_) => Ok(Answer::Done),
+            None => Err(Reason::OutOfRange),
         },
-        Statement::Operation(operation) => Ok(Answer::Reply(setup.perform(operation))),
+        Statement::Count => Ok(Answer::Count(store.count())),
+        Statement::Fetch(address) => Ok(fetch_answer(store.fetch(address))),
+        Statement::Put { address, word } => Ok(put_answer(store.put_whole(address, word))),
+        Statement::PutHalf {
+            address,
+            half,
+            value,
+        } => Ok(put_answer(store.put_half(address, half, value))),
     }
 }

@@ -1,6 +1,6 @@
 // A line of the transcript.
 ghost use Rattle.std.specs.Prelude.{◌≡◌, IfOk};
-ghost use Rattle.reader.specs.Line.{texts};
+ghost use Rattle.script.specs.Line.{texts};
 ghost use Rattle.script.specs.Transcript.{line_text};
 
 use crate::answer::Answer;

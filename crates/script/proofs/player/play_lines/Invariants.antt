@@ -1,5 +1,5 @@
 use Rattle.std.proofs.Common.{◌≡◌, ◌+◌, [], drop, None, vec_items}
-use Rattle.reader.specs.Line.{texts}
+use Rattle.script.specs.Line.{texts}
 use Rattle.script.specs.Script.{lines_played}
 use Rattle.script.specs.Session.{memory_of}
 use Rattle.script.proofs.player.play_lines.Given as goal

@@ -1,5 +1,5 @@
 use Rattle.std.proofs.Common.{◌≡◌, take, vec_items}
-use Rattle.reader.specs.Line.{texts}
+use Rattle.script.specs.Line.{texts}
 use Rattle.script.specs.Transcript.{spaced}
 use Rattle.script.proofs.transcript.write_line.Given as goal
 

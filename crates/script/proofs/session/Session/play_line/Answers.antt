@@ -1,7 +1,7 @@
 use Rattle.std.proofs.Common.{rules}
 use Rattle.script.specs.Play.{line_played, line_left}
 use Rattle.script.proofs.Spaced.{reads_again}
-use Rattle.reader.proofs.Texts.{length_texts}
+use Rattle.script.proofs.Texts.{length_texts}
 use Rattle.script.proofs.session.Session.play_line.Goals as goal
 
 pub returns-in_err-words : goal.returns-in_err-words

@@ -1,5 +1,0 @@
-mod Digits
-mod Lines
-mod Prefixes
-pub mod Texts
-pub mod Words
