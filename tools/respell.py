@@ -4,7 +4,8 @@
 usage: python3 tools/respell.py [FOLDER]     once, after the kit's port.py, at the top of the repository or of FOLDER
 
 It renames tokens in the .antt files of specs/ and proofs/ and in the clauses of the .rt files: strings and comments keep what they say, and so do the names
-that Rattle makes for goals, which are the kit's. A name with a dash is never Rust, so no function of src/ is touched.
+that Rattle makes for goals and steps, unless one is spelled like a definition (the step `in-base` of read_number, which is `in_base` now). A name with a dash is
+never Rust, so no function of src/ is touched.
 """
 
 import os

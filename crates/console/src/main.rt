@@ -5,7 +5,7 @@ use anyhow::anyhow;
 use script::play;
 use std::io::{Read, Write};
 use std::process::ExitCode;
-use std::{env, fs, io};
+use std::{env, fs};
 
 // Writes a script's transcript; what stops the script is the error.
 fn show(rt: &HostRuntime, script: &[u8]) -> anyhow::Result<()> {
@@ -34,12 +34,14 @@ fn run(rt: &HostRuntime) -> anyhow::Result<()> {
     Ok(())
 }
 
-fn main(rt: HostRuntime) -> io::Result<ExitCode> {
-    if let Err(error) = run(&rt) {
-        eprintln!(rt; "{error}")?;
-        return Ok(ExitCode::FAILURE);
+fn main(rt: HostRuntime) -> ExitCode {
+    match run(&rt) {
+        Ok(()) => ExitCode::SUCCESS,
+        Err(error) => {
+            let _ = eprintln!(rt; "{error}");
+            ExitCode::FAILURE
+        }
     }
-    Ok(ExitCode::SUCCESS)
 }
 
 #[cfg(test)]

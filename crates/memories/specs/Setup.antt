@@ -1,4 +1,4 @@
--- What a script has set up, and what its statements make of it.
+-- What was made by a layout, and what becomes of it.
 use Rattle.std.specs.Prelude.{ℕ, Bool, false, cond, ◌&&◌, is_ok, nat_lt}
 use Rattle.store.specs.Cells.{good_cell, with_half}
 use Rattle.store.specs.Functions.{put_whole_answer, put_half_answer}

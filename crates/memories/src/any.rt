@@ -1,4 +1,4 @@
-// One store over any memory that a script describes. The kinds of a pair's memories are in its type.
+// One store over any memory that a layout describes. The kinds of a pair's memories are in its type.
 ghost use Rattle.std.specs.Prelude.{◌≡◌, length, is_ok, if◌then◌else◌};
 ghost use Rattle.store.specs.Cells.{good_cell, with_half};
 ghost use Rattle.store.specs.Functions.{put_whole_answer, put_half_answer, whole_put, half_put};

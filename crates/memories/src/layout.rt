@@ -1,4 +1,4 @@
-// What a script says of its memory.
+// What memory is to be made: one, or two with the rule that joins them.
 use pairs::Rule;
 
 #[derive(Clone, Copy, Debug, PartialEq)]

@@ -1,4 +1,4 @@
-// The memories that a script describes: a word or a parity memory, or a pair of them; and one store over any such.
+// The memories that a layout describes: a word or a parity memory, or a pair of them; and one store over any such.
 #![tactic(auto)]
 
 mod any;

@@ -1,4 +1,4 @@
-// What a script has set up: a store over one memory or two, which can be damaged number by number.
+// What was made by a layout: a store over one memory or two, which can be damaged number by number.
 ghost use Rattle.std.specs.Prelude.{◌≡◌, is_ok, IfOk, if◌then◌else◌};
 ghost use Rattle.store.specs.Operations.{replied, left};
 ghost use Rattle.pairs.specs.Pair.{rows};
