@@ -1,11 +1,12 @@
 // What the library reads and answers, bad lines too.
 use script::{
-    Answer, Problem, Reason, Session, Statement, play, read_number, read_statement, split_words,
+    Answer, Failure, Problem, Reason, Session, Statement, play, read_number, read_statement,
+    split_words,
 };
-use std::alloc::{AllocError, Global};
+use std::alloc::Global;
 use std::process::Abort;
 use std::test::Fail;
-use store::{CellAddress, Half};
+use store::{CellAddress, Half, Operation, Reply};
 
 #[test]
 fn numbers(rt: HostRuntime) {
@@ -63,11 +64,11 @@ fn statements(rt: HostRuntime) -> Result<(), Fail> {
     let words = split_words(rt.alloc(), b"put-half 0o17 lower 9")?;
     assert_eq!(rt;
         read_statement(words.as_slice()),
-        Ok(Statement::PutHalf {
+        Ok(Statement::Operation(Operation::PutHalf {
             address: CellAddress(15),
             half: Half::Lower,
             value: 9,
-        })
+        }))
     );
     assert_eq!(rt; read_statement(&[]), Err(Reason::WordCount));
     Ok(())
@@ -76,23 +77,24 @@ fn statements(rt: HostRuntime) -> Result<(), Fail> {
 #[test]
 fn a_statement_before_the_memory(rt: HostRuntime) -> Result<(), Fail> {
     let mut session = Session::new();
+    let count = Statement::Operation(Operation::Count);
     assert_eq!(rt;
-        session.perform(rt.alloc(), Statement::Count)?,
-        Err(Reason::NoMemory)
+        session.perform(rt.alloc(), count),
+        Err(Failure::Wrong(Reason::NoMemory))
     );
     assert_eq!(rt;
-        session.perform(rt.alloc(), Statement::Memory(262_144))?,
+        session.perform(rt.alloc(), Statement::Memory(262_144)),
         Ok(Answer::Done)
     );
     assert_eq!(rt;
-        session.perform(rt.alloc(), Statement::Count)?,
-        Ok(Answer::Count(131_072))
+        session.perform(rt.alloc(), count),
+        Ok(Answer::Reply(Reply::Counted(131_072)))
     );
     Ok(())
 }
 
 // What line 2 comes to after a memory of two numbers.
-fn second_line(heap: Global, line: &[u8]) -> Result<Result<Option<Vec<u8>>, Problem>, AllocError> {
+fn second_line(heap: Global, line: &[u8]) -> Result<Option<Vec<u8>>, Failure<Problem>> {
     let mut session = Session::new();
     let _ = session.play_line(heap, 1, b"memory word 2")?;
     session.play_line(heap, 2, line)
@@ -122,8 +124,8 @@ fn bad_lines(rt: HostRuntime) -> Result<(), Fail> {
     ];
     for (line, reason) in lines {
         assert_eq!(rt;
-            second_line(rt.alloc(), line)?,
-            Err(Problem { line: 2, reason })
+            second_line(rt.alloc(), line),
+            Err(Failure::Wrong(Problem { line: 2, reason }))
         );
     }
     Ok(())
@@ -132,9 +134,9 @@ fn bad_lines(rt: HostRuntime) -> Result<(), Fail> {
 #[test]
 fn good_lines(rt: HostRuntime) -> Result<(), Fail> {
     let heap = rt.alloc();
-    assert_eq!(rt; second_line(heap, b" # nothing")?, Ok(None));
+    assert_eq!(rt; second_line(heap, b" # nothing"), Ok(None));
     assert_eq!(rt;
-        second_line(heap, b"raw  1 0 ")?,
+        second_line(heap, b"raw  1 0 "),
         Ok(Some(b"raw 1 0 -> ok".to_vec(heap)?))
     );
     Ok(())

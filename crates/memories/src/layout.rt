@@ -1,7 +1,7 @@
 // What memory is to be made: one, or two with the rule that joins them.
 use pairs::Rule;
 
-#[derive(Clone, Copy, Debug, PartialEq)]
+#[derive(Clone, Copy, Debug, PartialEq, Eq)]
 pub enum Kind {
     // 32-bit numbers, one to a cell
     Word,
@@ -10,13 +10,13 @@ pub enum Kind {
 }
 
 // A memory: its kind, and of how many numbers it is.
-#[derive(Clone, Copy, Debug, PartialEq)]
+#[derive(Clone, Copy, Debug, PartialEq, Eq)]
 pub struct Part {
     pub kind: Kind,
     pub size: u32,
 }
 
-#[derive(Clone, Copy, Debug, PartialEq)]
+#[derive(Clone, Copy, Debug, PartialEq, Eq)]
 pub enum Layout {
     Single(Part),
     Pair {
@@ -24,11 +24,4 @@ pub enum Layout {
         first: Part,
         second: Part,
     },
-}
-
-// One of the memories of a pair. A memory that is alone is the first.
-#[derive(Clone, Copy, Debug, PartialEq)]
-pub enum Side {
-    First,
-    Second,
 }

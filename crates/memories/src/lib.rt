@@ -7,7 +7,8 @@ mod layout;
 mod setup;
 
 pub use bank::OutOfRange;
-pub use layout::{Kind, Layout, Part, Side};
+pub use layout::{Kind, Layout, Part};
+pub use pairs::Side;
 pub use setup::Setup;
 
 #[cfg(test)]

@@ -1,8 +1,10 @@
+use super::{Kind, Layout, OutOfRange, Part, Setup, Side};
 use pairs::{Pair, Rule};
 use std::alloc::{AllocError, Global};
 use std::test::Fail;
 use store::{CellAddress, Fault, Half, Operation, Reply, Store, play, play_both};
 use stores::{ParityStore, WordStore};
+use words::word_bits;
 
 // A pair of a pair and a word store. The inner pair's row is 11, 12, 13, 14, and the outer one's 11, 21, 12, 22, 13, 23.
 fn nested(heap: Global) -> Result<Pair<Pair<WordStore, ParityStore>, WordStore>, AllocError> {
@@ -22,17 +24,17 @@ fn nested(heap: Global) -> Result<Pair<Pair<WordStore, ParityStore>, WordStore>,
 fn pairs_nest(rt: HostRuntime) -> Result<(), Fail> {
     let mut outer = nested(rt.alloc())?;
     assert_eq!(rt; outer.count(), 6);
-    assert_eq!(rt; outer.fetch(CellAddress(3)), Ok(22));
-    assert_eq!(rt; outer.fetch(CellAddress(4)), Ok(13));
+    assert_eq!(rt; outer.fetch(CellAddress(3)), Ok(word_bits(22)));
+    assert_eq!(rt; outer.fetch(CellAddress(4)), Ok(word_bits(13)));
     assert_eq!(rt; outer.fetch(CellAddress(6)), Err(Fault::NoCell));
     assert_eq!(rt; outer.put_half(CellAddress(4), Half::Upper, 1), Ok(()));
-    assert_eq!(rt; outer.fetch(CellAddress(4)), Ok(0o0000100015));
+    assert_eq!(rt; outer.fetch(CellAddress(4)), Ok(word_bits(0o0000100015)));
     assert_eq!(rt; outer.first.second.replace_number(0, 0), Some(1));
     assert_eq!(rt;
         outer.fetch(CellAddress(4)),
         Err(Fault::Spoiled(Half::Upper))
     );
-    assert_eq!(rt; outer.fetch(CellAddress(2)), Ok(12));
+    assert_eq!(rt; outer.fetch(CellAddress(2)), Ok(word_bits(12)));
     Ok(())
 }
 
@@ -57,15 +59,17 @@ const OPERATIONS: [Operation; 7] = [
     Operation::Fetch(CellAddress(6)),
 ];
 
-const REPLIES: [Reply; 7] = [
-    Reply::Counted(6),
-    Reply::Fetched(Ok(13)),
-    Reply::Put(Ok(())),
-    Reply::Put(Ok(())),
-    Reply::Fetched(Ok(0o1234500007)),
-    Reply::Put(Err(Fault::NoCell)),
-    Reply::Fetched(Err(Fault::NoCell)),
-];
+fn replies() -> [Reply; 7] {
+    [
+        Reply::Counted(6),
+        Reply::Fetched(Ok(word_bits(13))),
+        Reply::Put(Ok(())),
+        Reply::Put(Ok(())),
+        Reply::Fetched(Ok(word_bits(0o1234500007))),
+        Reply::Put(Err(Fault::NoCell)),
+        Reply::Fetched(Err(Fault::NoCell)),
+    ]
+}
 
 #[test]
 fn stores_with_equal_rows_answer_alike(rt: HostRuntime) -> Result<(), Fail> {
@@ -73,8 +77,8 @@ fn stores_with_equal_rows_answer_alike(rt: HostRuntime) -> Result<(), Fail> {
     let mut words = WordStore::new(vec![in heap; 11, 21, 12, 22, 13, 23]?);
     let mut pairs = nested(heap)?;
     let (first, second) = play_both(heap, &mut words, &mut pairs, &OPERATIONS)?;
-    assert_eq!(rt; first.as_slice(), REPLIES.as_slice());
-    assert_eq!(rt; second.as_slice(), REPLIES.as_slice());
+    assert_eq!(rt; first.as_slice(), replies().as_slice());
+    assert_eq!(rt; second.as_slice(), replies().as_slice());
     Ok(())
 }
 
@@ -83,8 +87,42 @@ fn a_list_is_played_in_order(rt: HostRuntime) -> Result<(), Fail> {
     let heap = rt.alloc();
     let mut pairs = nested(heap)?;
     let answers = play(heap, &mut pairs, &OPERATIONS)?;
-    assert_eq!(rt; answers.as_slice(), REPLIES.as_slice());
+    assert_eq!(rt; answers.as_slice(), replies().as_slice());
     assert_eq!(rt; pairs.first.first.replace_number(0, 0), Some(11));
     assert_eq!(rt; pairs.second.replace_number(2, 0), Some(0o1234500007));
+    Ok(())
+}
+
+// A word memory of two cells, and a parity memory of two cells after it.
+const LAYOUT: Layout = Layout::Pair {
+    rule: Rule::Continuous,
+    first: Part {
+        kind: Kind::Word,
+        size: 2,
+    },
+    second: Part {
+        kind: Kind::Parity,
+        size: 4,
+    },
+};
+
+#[test]
+fn damage_is_answered_where_it_was_done(rt: HostRuntime) -> Result<(), Fail> {
+    let mut setup = Setup::new(rt.alloc(), LAYOUT)?;
+    let fetch = Operation::Fetch(CellAddress(2));
+    assert_eq!(rt; setup.perform(Operation::Count), Reply::Counted(4));
+    assert_eq!(rt; setup.perform(fetch), Reply::Fetched(Ok(word_bits(0))));
+    assert_eq!(rt; setup.replace_number(Side::First, 1, 0x8000_0000), Ok(()));
+    assert_eq!(rt; setup.perform(fetch), Reply::Fetched(Ok(word_bits(0))));
+    assert_eq!(rt; setup.replace_number(Side::Second, 1, 3), Ok(()));
+    assert_eq!(rt;
+        setup.perform(fetch),
+        Reply::Fetched(Err(Fault::Spoiled(Half::Lower)))
+    );
+    assert_eq!(rt; setup.replace_number(Side::Second, 4, 0), Err(OutOfRange));
+    assert_eq!(rt;
+        setup.replace_number(Side::Second, 0, 65_536),
+        Err(OutOfRange)
+    );
     Ok(())
 }

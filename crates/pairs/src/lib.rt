@@ -6,4 +6,5 @@ mod place;
 mod rule;
 
 pub use pair::Pair;
+pub use place::Side;
 pub use rule::Rule;

@@ -3,12 +3,10 @@ ghost use Rattle.std.specs.Prelude.{◌≡◌, ◌≤◌};
 ghost use Rattle.store.specs.Cells.{most_cells};
 ghost use Rattle.pairs.specs.Pair.{pair_count, place_of};
 
-use crate::place::Place;
-use store::CellAddress;
+use crate::place::{Place, Side};
+use store::{CellAddress, MOST_CELLS};
 
-const MOST_CELLS: u32 = 131_072;
-
-#[derive(Clone, Copy, Debug, PartialEq)]
+#[derive(Clone, Copy, Debug, PartialEq, Eq)]
 pub enum Rule {
     // the second store's cells follow the first's
     Continuous,
@@ -33,22 +31,18 @@ impl Rule {
     pub(crate) fn place(self, first: u32, address: CellAddress) -> Place
         ensures { result ≡ place_of self first address.0 }
     {
-        match self {
-            Rule::Continuous => {
-                if address.0 < first {
-                    Place::First(address)
-                } else {
-                    Place::Second(CellAddress(address.0 - first))
-                }
-            }
+        let (side, address) = match self {
+            Rule::Continuous if address.0 < first => (Side::First, address.0),
+            Rule::Continuous => (Side::Second, address.0 - first),
             Rule::Interleaved => {
-                let half = CellAddress(address.0 / 2);
-                if address.0 % 2 == 0 {
-                    Place::First(half)
-                } else {
-                    Place::Second(half)
-                }
+                let is_even = address.0 % 2 == 0;
+                let side = if is_even { Side::First } else { Side::Second };
+                (side, address.0 / 2)
             }
+        };
+        Place {
+            side,
+            address: CellAddress(address),
         }
     }
 }

@@ -2,6 +2,7 @@ mod Digits
 mod Following
 mod Later
 mod Lines
+mod Parts
 mod Prefixes
 mod Spaced
 mod Texts

@@ -1,29 +1,59 @@
--- The lines of a script, one byte and one line at a time.
-use Rattle.std.proofs.Common.{◌≡◌, ℕ, ◌+◌, ◌-◌, ◌<◌, ◌≤◌, List, [], ◌∷◌, ◌++◌, length, get_or, take, drop, sym, refl, ap, ◌∙◌, append_assoc, arith}
-use Rattle.std.proofs.lemmas.List.{drop_all, drop_more, take_all, take_more, take_rest}
-use Rattle.std.proofs.lemmas.Bool.{ne_eqb}
-use Rattle.script.specs.Line.{begun, lines_after, lines_of}
+-- The lines of a script are the parts between line feeds, but for an empty last one, which plays as nothing.
+use Rattle.std.proofs.Common.{◌≡◌, ℕ, ◌+◌, ◌<◌, Bool, true, false, cond, List, [], ◌∷◌, ◌++◌, length, None, Ok, Err, Option, Result, sym, refl, ap, ◌∙◌, append-nil, arith}
+use Rattle.std.specs.Prelude.{◌==◌}
+use Rattle.std.specs.List.{onto_first, slice_split}
+use Rattle.std.proofs.lemmas.List.Splits.{length-slice_split}
+use Rattle.script.specs.declared.problem.Problem.{Problem}
+use Rattle.script.specs.Line.{begun, lines_after}
+use Rattle.script.specs.Play.{line_played, line_left}
+use Rattle.script.specs.Script.{Outcome, goes_on, lines_played, script_played}
+use Rattle.script.proofs.Parts.{onto, onto_none, onto_first_again}
 
--- the byte at i goes on with the line
-pub line_goes_on : (i : ℕ) (script : List ℕ) → i < length script → (get_or script i 0 ≡ 10 → ⊥) → lines_after (take (i + 1) script) (drop (i + 1) script) ≡ lines_after (take i script) (drop i script)
-line_goes_on i script lt p = rw (take_more script i 0 lt, drop_more script i 0 lt, ne_eqb (get_or script i 0) 10 p)
+abbrev pub is_line_feed : ℕ → Bool
+is_line_feed c = c == 10
 
--- a line feed at i ends it; what follows is as `&script[i + 1..]` has it
-pub line_stops : (i : ℕ) (script : List ℕ) → i < length script → get_or script i 0 ≡ 10 → lines_after (take i script) (drop i script) ≡ take i script ∷ lines_of (take (length script - (i + 1)) (drop (i + 1) script))
-line_stops i script lt e = rw (drop_more script i 0 lt, e, take_rest script (i + 1))
+abbrev pub parts_of : List ℕ → List (List ℕ)
+parts_of script = slice_split is_line_feed script
 
-whole : (script : List ℕ) → 0 < length script → begun script ≡ script ∷ []
-whole [] some = absurd (omega arith)
-whole (c ∷ cs) some = refl
+has_parts : (script : List ℕ) → 0 < length (parts_of script)
+has_parts script = omega (arith, length-slice_split is_line_feed script)
 
--- the last line has no line feed
-pub line_ends : (i : ℕ) (script : List ℕ) → length script ≤ i → 0 < length script → lines_after (take i script) (drop i script) ≡ script ∷ []
-line_ends i script h some = rw (drop_all i script h, take_all i script h) (whole script some)
+-- without an empty last part
+abbrev trimmed : List (List ℕ) → List (List ℕ)
+trimmed [] = []
+trimmed (part ∷ []) = begun part
+trimmed (part ∷ next ∷ parts) = part ∷ trimmed (next ∷ parts)
 
-pub no_lines : (rest : List ℕ) → length rest ≡ 0 → lines_of rest ≡ []
-no_lines [] h = refl
-no_lines (c ∷ cs) h = absurd (omega arith)
+trimmed_more : (part : List ℕ) (parts : List (List ℕ)) → 0 < length parts → part ∷ trimmed parts ≡ trimmed (part ∷ parts)
+trimmed_more part [] some = absurd (omega arith)
+trimmed_more part (next ∷ parts) some = refl
 
--- the next line is found
-pub one_line_more : (ls : List (List ℕ)) (line rest after all : List ℕ) → ls ++ lines_of rest ≡ lines_of all → lines_of rest ≡ line ∷ lines_of after → (ls ++ line ∷ []) ++ lines_of after ≡ lines_of all
-one_line_more ls line rest after all h e = append_assoc ls (line ∷ []) (lines_of after) ∙ ap (λ l. ls ++ l) (sym e) ∙ h
+lines_split_after : (l script : List ℕ) → lines_after l script ≡ trimmed (onto l (parts_of script))
+lines_split_after l [] = ap begun (sym (append-nil l))
+lines_split_after l (c ∷ cs) =
+    elim (c == 10) as
+    (λ ends. cond ends (l ∷ lines_after [] cs) (lines_after (l ++ c ∷ []) cs) ≡ trimmed (onto l (cond ends ([] ∷ parts_of cs) (onto_first c (parts_of cs))))) [
+      | true ↦
+          ap (λ ls. l ∷ ls) (lines_split_after [] cs ∙ ap trimmed (onto_none (parts_of cs) (has_parts cs)))
+          ∙ trimmed_more l (parts_of cs) (has_parts cs)
+          ∙ ap (λ k. trimmed (k ∷ parts_of cs)) (sym (append-nil l))
+      | false ↦ lines_split_after (l ++ c ∷ []) cs ∙ ap trimmed (sym (onto_first_again l c (parts_of cs)))
+    ]
+
+same_after : (t : List ℕ) (r : Result (Option (List ℕ)) Problem) (rest rest' : List ℕ → Outcome) → ((u : List ℕ) → rest u ≡ rest' u) → goes_on t r rest ≡ goes_on t r rest'
+same_after t (Ok text) rest rest' same = same _
+same_after t (Err p) rest rest' same = refl
+
+trimmed_plays : (t : List ℕ) (memory : Option (List ℕ)) (number : ℕ) (parts : List (List ℕ)) → lines_played t memory number parts ≡ lines_played t memory number (trimmed parts)
+unfolding lines_played line_played
+trimmed_plays t memory number [] = refl
+trimmed_plays t memory number ([] ∷ []) = refl
+trimmed_plays t memory number ((c ∷ cs) ∷ []) = refl
+trimmed_plays t memory number (part ∷ next ∷ parts) =
+    same_after t (line_played memory number part) _ _ (λ u. trimmed_plays u (line_left memory part) (number + 1) (next ∷ parts))
+
+-- the parts of a script play as its lines
+pub parts_play : (script : List ℕ) → lines_played [] None 1 (parts_of script) ≡ script_played script
+parts_play script =
+    trimmed_plays [] None 1 (parts_of script)
+    ∙ ap (lines_played [] None 1) (ap trimmed (sym (onto_none (parts_of script) (has_parts script))) ∙ sym (lines_split_after [] script))

@@ -6,7 +6,9 @@ use Rattle.std.proofs.lemmas.List.{take_rest}
 use Rattle.std.proofs.lemmas.Str.Parse.{digit_at}
 use Rattle.std.proofs.lemmas.Bool.{and_from, lt-ltb, ne_eqb}
 use Rattle.std.proofs.lemmas.Bool.Decides.{nat_tests}
-use Rattle.script.specs.Number.{all_digits, in_base, number_of}
+use Rattle.std.specs.Char.{is_digit}
+use Rattle.std.specs.List.{list_all}
+use Rattle.script.specs.Number.{in_base, number_of}
 
 -- after a 0 the second byte chooses; the rest is as `&w[2..]` has it
 pub by_letter : (w : List ℕ) → get_or w 0 0 ≡ 48 → number_of w ≡ cond (eqb (get_or w 1 0) 111) (in_base 8 (take (length w - 2) (drop 2 w))) (cond (eqb (get_or w 1 0) 120) (in_base 16 (take (length w - 2) (drop 2 w))) (in_base 10 w))
@@ -32,7 +34,7 @@ digits_decimal [] h = refl
 digits_decimal (a ∷ []) h = decimal_short (a ∷ []) (omega arith)
 digits_decimal (a ∷ b ∷ cs) h = let digit = digit_at (a ∷ b ∷ cs) 1 h (omega arith) in grind (arith, nat_tests)
 
-all_digits_from : (b : ℕ) (ds : List ℕ) → AllDigits b ds → all_digits b ds ≡ true
+all_digits_from : (b : ℕ) (ds : List ℕ) → AllDigits b ds → list_all (λ c. is_digit c b) ds ≡ true
 all_digits_from b [] h = refl
 all_digits_from b (c ∷ cs) h = and_from _ _ (lt-ltb _ _ h.0) (all_digits_from b cs h.1)
 

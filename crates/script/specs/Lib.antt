@@ -1,3 +1,4 @@
+pub mod Failure
 pub mod Line
 pub mod Number
 pub mod Play

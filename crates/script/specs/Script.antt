@@ -1,5 +1,7 @@
 -- What a whole script comes to: the transcript of its lines, up to the first that has a problem.
 use Rattle.std.specs.Prelude.{◌≡◌, ℕ, ◌+◌, List, [], ◌∷◌, ◌++◌, Some, None, Ok, Err, vec_items, Option, Result}
+use Rattle.script.specs.declared.failure.Failure.{Failure}
+use Rattle.script.specs.declared.failure.Failure.TheVariants.{OutOfMemory, Wrong}
 use Rattle.script.specs.declared.player.Played.{Played}
 use Rattle.script.specs.declared.problem.Problem.{Problem}
 use Rattle.script.specs.Line.{lines_of}
@@ -11,6 +13,12 @@ pub record Outcome : Type 0 where
 
 abbrev pub told_by : Played → Outcome
 told_by p = record { transcript = vec_items p.transcript; problem = p.problem }
+
+-- what playing gives that wrote a transcript is the outcome that was due, unless memory ran out
+abbrev pub Tells : List ℕ → Result (Unit {0}) (Failure Problem) → Outcome → Type 0
+Tells t (Ok u) due = record { transcript = t; problem = None } ≡ due
+Tells t (Err (OutOfMemory e)) due = Unit {0}
+Tells t (Err (Wrong p)) due = record { transcript = t; problem = Some p } ≡ due
 
 -- a transcript with one line more, if there is one
 abbrev pub grown : List ℕ → Option (List ℕ) → List ℕ

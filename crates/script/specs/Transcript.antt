@@ -1,8 +1,7 @@
 -- The text of answers and problems, and a line of the transcript.
 use Rattle.std.specs.Prelude.{ℕ, List, [], ◌∷◌, ◌++◌, codes, decimal}
 use Rattle.std.specs.List.{flat_map}
-use Rattle.words.specs.Octal.{octal_word}
-use Rattle.store.specs.Text.{fault_text}
+use Rattle.store.specs.Text.{reply_text}
 use Rattle.script.specs.declared.answer.Answer.{Answer}
 use Rattle.script.specs.declared.answer.Answer.TheVariants as answer
 use Rattle.script.specs.declared.problem.Problem.{Problem}
@@ -11,9 +10,7 @@ use Rattle.script.specs.declared.reason.Reason.TheVariants.{UnknownWord, WordCou
 
 abbrev pub answer_text : Answer → List ℕ
 answer_text answer.Done = codes "ok"
-answer_text (answer.Count n) = decimal n
-answer_text (answer.Word w) = octal_word w
-answer_text (answer.Fault f) = fault_text f
+answer_text (answer.Reply r) = reply_text r
 
 abbrev pub reason_text : Reason → List ℕ
 reason_text UnknownWord = codes "unknown word"

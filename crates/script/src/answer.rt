@@ -3,29 +3,21 @@ ghost use Rattle.std.specs.Prelude.{Some};
 ghost use Rattle.script.specs.Transcript.{answer_text};
 
 use std::fmt;
-use store::Fault;
-use words::OctalWord;
+use store::Reply;
 
-#[derive(Clone, Copy, Debug, PartialEq)]
+#[derive(Clone, Copy, Debug, PartialEq, Eq)]
 pub enum Answer {
     Done,
-    Count(u32),
-    Word(u32),
-    Fault(Fault),
+    Reply(Reply),
 }
 
 impl fmt::Display for Answer {
-    ghost output = { λ a. Some (answer_text a) };
+    ghost output = { λ answer. Some (answer_text answer) };
 
     fn fmt<W: fmt::Write>(&self, f: &mut fmt::Formatter<W>) -> fmt::Result {
-        match *self {
+        match self {
             Answer::Done => write!(f, "ok"),
-            Answer::Count(count) => write!(f, "{count}"),
-            Answer::Word(word) => {
-                let word = OctalWord(word);
-                write!(f, "{word}")
-            }
-            Answer::Fault(fault) => write!(f, "{fault}"),
+            Answer::Reply(reply) => write!(f, "{reply}"),
         }
     }
 }

@@ -2,6 +2,7 @@
 #![tactic(auto)]
 
 mod answer;
+mod failure;
 mod line;
 mod number;
 mod player;
@@ -13,6 +14,7 @@ mod transcript;
 mod verb;
 
 pub use answer::Answer;
+pub use failure::Failure;
 pub use line::split_words;
 pub use number::read_number;
 pub use player::{Played, play};

@@ -1,10 +1,10 @@
 // A whole script.
-ghost use Rattle.std.specs.Prelude.{◌≡◌, [], IfOk, None, vec_items, OnOk};
+ghost use Rattle.std.specs.Prelude.{◌≡◌, ◌==◌, IfOk, None, vec_items, OnOk};
 ghost use Rattle.std.specs.Option.{option_map};
-ghost use Rattle.script.specs.Line.{texts};
-ghost use Rattle.script.specs.Script.{grown, told_by, lines_played, script_played, TranscriptStays};
+ghost use Rattle.std.specs.List.{slice_split};
+ghost use Rattle.script.specs.Script.{Tells, grown, told_by, lines_played, script_played, TranscriptStays};
 
-use crate::line::split_lines;
+use crate::failure::Failure;
 use crate::problem::Problem;
 use crate::session::Session;
 use std::alloc::{AllocError, Global};
@@ -27,33 +27,33 @@ fn extend(transcript: &mut Vec<u8>, text: Option<Vec<u8>>) -> Result<(), AllocEr
     Ok(())
 }
 
-fn play_lines(heap: Global, lines: &[&[u8]]) -> Result<Played, AllocError>
-    ensures { IfOk result (λ p. told_by p ≡ lines_played [] None 1 (texts lines.now)) }
+// Plays the parts of a script between its line feeds, and adds their lines to the transcript. An empty part after the last line feed plays as nothing.
+fn play_lines(heap: Global, transcript: &mut Vec<u8>, script: &[u8]) -> Result<(), Failure<Problem>>
+    ensures { Tells transcript.new.items result (lines_played transcript.old.items None 1 (slice_split (λ byte. byte == 10) script.now)) }
 {
     let mut session = Session::new();
-    let mut transcript = Vec::new(heap);
-    for (index, line) in lines.iter().enumerate() {
-        match session.play_line(heap, index as u64 + 1, line)? {
-            Ok(text) => extend(&mut transcript, text)?,
-            Err(problem) => {
-                return Ok(Played {
-                    transcript,
-                    problem: Some(problem),
-                });
-            }
-        }
+    // Not a zip with `1..`: no lemma says what that yields, and the loop's goals stay open.
+    for (index, line) in script.split(|byte| *byte == b'\n').enumerate() {
+        let text = session.play_line(heap, index as u64 + 1, line)?;
+        extend(transcript, text)?;
     }
-    Ok(Played {
-        transcript,
-        problem: None,
-    })
+    Ok(())
 }
 
 // Plays a script from nothing.
+#[tactic(auto, using(crate::proofs::Later::transcript_stays, crate::proofs::Lines::parts_play))]
 pub fn play(heap: Global, script: &[u8]) -> Result<Played, AllocError>
     ensures outcome { IfOk result (λ p. told_by p ≡ script_played script.now) }
     ensures stays { TranscriptStays script.now }
 {
-    let lines = split_lines(heap, script)?;
-    play_lines(heap, lines.as_slice())
+    let mut transcript = Vec::new(heap);
+    let problem = match play_lines(heap, &mut transcript, script) {
+        Ok(()) => None,
+        Err(Failure::Wrong(problem)) => Some(problem),
+        Err(Failure::OutOfMemory(error)) => return Err(error),
+    };
+    Ok(Played {
+        transcript,
+        problem,
+    })
 }

@@ -1,8 +1,11 @@
 // Why a line is no statement, or one that cannot be done.
-ghost use Rattle.std.specs.Prelude.{◌≡◌};
+ghost use Rattle.std.specs.Prelude.{Some};
 ghost use Rattle.script.specs.Transcript.{reason_text};
 
-#[derive(Clone, Copy, Debug, PartialEq)]
+use std::error::Error;
+use std::fmt;
+
+#[derive(Clone, Copy, Debug, PartialEq, Eq)]
 pub enum Reason {
     UnknownWord,
     WordCount,
@@ -13,19 +16,20 @@ pub enum Reason {
     OutOfRange,
 }
 
-impl Reason {
-    // What a person is told.
-    pub(crate) fn text(self) -> &'static str
-        ensures { result.now ≡ reason_text self }
-    {
+impl fmt::Display for Reason {
+    ghost output = { λ reason. Some (reason_text reason) };
+
+    fn fmt<W: fmt::Write>(&self, f: &mut fmt::Formatter<W>) -> fmt::Result {
         match self {
-            Reason::UnknownWord => "unknown word",
-            Reason::WordCount => "wrong number of words",
-            Reason::NotANumber => "not a number",
-            Reason::TooLarge => "number of 2^32 or more",
-            Reason::NoMemory => "no memory yet",
-            Reason::SecondMemory => "a second memory",
-            Reason::OutOfRange => "number out of range",
+            Reason::UnknownWord => write!(f, "unknown word"),
+            Reason::WordCount => write!(f, "wrong number of words"),
+            Reason::NotANumber => write!(f, "not a number"),
+            Reason::TooLarge => write!(f, "number of 2^32 or more"),
+            Reason::NoMemory => write!(f, "no memory yet"),
+            Reason::SecondMemory => write!(f, "a second memory"),
+            Reason::OutOfRange => write!(f, "number out of range"),
         }
     }
 }
+
+impl Error for Reason {}

@@ -1,63 +1,33 @@
 // The statements of a script, and how words make one.
-ghost use Rattle.std.specs.Prelude.{◌≡◌, length, if◌then◌else◌, Ok, Err, nat_eq};
-ghost use Rattle.script.specs.declared.reason.Reason.TheVariants.{WordCount};
+#![tactic(auto, using(crate::proofs::Texts::length_texts, crate::proofs::Texts::text_at))]
+
+ghost use Rattle.std.specs.Prelude.{◌≡◌};
 ghost use Rattle.script.specs.Line.{texts};
-ghost use Rattle.script.specs.Statement.{nth_word, half_of, memory_statement, raw_statement, count_statement, fetch_statement, put_statement, put_half_statement, with_verb, statement_of};
+ghost use Rattle.script.specs.Statement.{half_of, memory_statement, raw_statement, count_statement, fetch_statement, put_statement, put_half_statement, with_verb, statement_of};
 
 use crate::number::read_number;
 use crate::reason::Reason;
-use crate::verb::{Verb, is, read_verb};
-use store::{CellAddress, Half};
+use crate::verb::Verb;
+use store::{CellAddress, Half, Operation};
 
 const MOST_NUMBERS: u32 = 262_144;
 
-#[derive(Clone, Copy, Debug, PartialEq)]
+#[derive(Clone, Copy, Debug, PartialEq, Eq)]
 pub enum Statement {
     // a word store over so many numbers
     Memory(u32),
-    Raw {
-        index: u32,
-        value: u32,
-    },
-    Count,
-    Fetch(CellAddress),
-    Put {
-        address: CellAddress,
-        word: u32,
-    },
-    PutHalf {
-        address: CellAddress,
-        half: Half,
-        value: u32,
-    },
+    Raw { index: u32, value: u32 },
+    Operation(Operation),
 }
 
-// There have to be just so many words.
-fn expect_words(args: &[&[u8]], count: usize) -> Result<(), Reason>
-    ensures { result ≡ (if nat_eq (length (texts args.now)) count then Ok tt else Err WordCount) }
-{
-    if args.len() != count {
-        return Err(Reason::WordCount);
-    }
-    Ok(())
-}
-
-// A word by its place, or no bytes past the last.
-fn nth<'a>(args: &[&'a [u8]], index: usize) -> &'a [u8]
-    ensures { result.now ≡ nth_word (texts args.now) index }
-{
-    if index < args.len() { args[index] } else { b"" }
-}
-
+// A function and no TryFrom: neither a half nor a slice is a type of this crate.
 fn read_half(word: &[u8]) -> Result<Half, Reason>
     ensures { result ≡ half_of word.now }
 {
-    if is(word, b"upper") {
-        Ok(Half::Upper)
-    } else if is(word, b"lower") {
-        Ok(Half::Lower)
-    } else {
-        Err(Reason::UnknownWord)
+    match word {
+        b"upper" => Ok(Half::Upper),
+        b"lower" => Ok(Half::Lower),
+        _ => Err(Reason::UnknownWord),
     }
 }
 
@@ -65,14 +35,16 @@ fn read_half(word: &[u8]) -> Result<Half, Reason>
 fn memory(args: &[&[u8]]) -> Result<Statement, Reason>
     ensures { result ≡ memory_statement (texts args.now) }
 {
-    if args.is_empty() {
+    let [kind, ..] = args else {
         return Err(Reason::WordCount);
-    }
-    if !is(nth(args, 0), b"word") {
+    };
+    if *kind != b"word".as_slice() {
         return Err(Reason::UnknownWord);
     }
-    expect_words(args, 2)?;
-    let size = read_number(nth(args, 1))?;
+    let [_, size] = args else {
+        return Err(Reason::WordCount);
+    };
+    let size = read_number(size)?;
     if size > MOST_NUMBERS {
         return Err(Reason::OutOfRange);
     }
@@ -83,9 +55,11 @@ fn memory(args: &[&[u8]]) -> Result<Statement, Reason>
 fn raw(args: &[&[u8]]) -> Result<Statement, Reason>
     ensures { result ≡ raw_statement (texts args.now) }
 {
-    expect_words(args, 2)?;
-    let index = read_number(nth(args, 0))?;
-    let value = read_number(nth(args, 1))?;
+    let [index, value] = args else {
+        return Err(Reason::WordCount);
+    };
+    let index = read_number(index)?;
+    let value = read_number(value)?;
     Ok(Statement::Raw { index, value })
 }
 
@@ -93,42 +67,50 @@ fn raw(args: &[&[u8]]) -> Result<Statement, Reason>
 fn count(args: &[&[u8]]) -> Result<Statement, Reason>
     ensures { result ≡ count_statement (texts args.now) }
 {
-    expect_words(args, 0)?;
-    Ok(Statement::Count)
+    let [] = args else {
+        return Err(Reason::WordCount);
+    };
+    Ok(Statement::Operation(Operation::Count))
 }
 
 // fetch CELL
 fn fetch(args: &[&[u8]]) -> Result<Statement, Reason>
     ensures { result ≡ fetch_statement (texts args.now) }
 {
-    expect_words(args, 1)?;
-    let address = CellAddress(read_number(nth(args, 0))?);
-    Ok(Statement::Fetch(address))
+    let [cell] = args else {
+        return Err(Reason::WordCount);
+    };
+    let address = CellAddress(read_number(cell)?);
+    Ok(Statement::Operation(Operation::Fetch(address)))
 }
 
 // put CELL WORD
 fn put(args: &[&[u8]]) -> Result<Statement, Reason>
     ensures { result ≡ put_statement (texts args.now) }
 {
-    expect_words(args, 2)?;
-    let address = CellAddress(read_number(nth(args, 0))?);
-    let word = read_number(nth(args, 1))?;
-    Ok(Statement::Put { address, word })
+    let [cell, word] = args else {
+        return Err(Reason::WordCount);
+    };
+    let address = CellAddress(read_number(cell)?);
+    let word = read_number(word)?;
+    Ok(Statement::Operation(Operation::PutWhole { address, word }))
 }
 
 // put-half CELL upper|lower HALF
 fn put_half(args: &[&[u8]]) -> Result<Statement, Reason>
     ensures { result ≡ put_half_statement (texts args.now) }
 {
-    expect_words(args, 3)?;
-    let address = CellAddress(read_number(nth(args, 0))?);
-    let half = read_half(nth(args, 1))?;
-    let value = read_number(nth(args, 2))?;
-    Ok(Statement::PutHalf {
+    let [cell, half, value] = args else {
+        return Err(Reason::WordCount);
+    };
+    let address = CellAddress(read_number(cell)?);
+    let half = read_half(half)?;
+    let value = read_number(value)?;
+    Ok(Statement::Operation(Operation::PutHalf {
         address,
         half,
         value,
-    })
+    }))
 }
 
 fn read_arguments(verb: Verb, args: &[&[u8]]) -> Result<Statement, Reason>
@@ -145,12 +127,12 @@ fn read_arguments(verb: Verb, args: &[&[u8]]) -> Result<Statement, Reason>
 }
 
 // The statement that the words of a line make.
+#[tactic(auto, using(crate::proofs::Texts::texts_short, crate::proofs::Texts::texts_first), unfolding(crate::specs::Statement::statement_of))]
 pub fn read_statement(words: &[&[u8]]) -> Result<Statement, Reason>
     ensures { result ≡ statement_of (texts words.now) }
 {
     let [name, args @ ..] = words else {
         return Err(Reason::WordCount);
     };
-    let verb = read_verb(name)?;
-    read_arguments(verb, args)
+    read_arguments(Verb::try_from(*name)?, args)
 }

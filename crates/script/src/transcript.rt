@@ -7,6 +7,7 @@ use crate::answer::Answer;
 use std::alloc::{AllocError, Global};
 
 // The words of a statement with a space after each, an arrow, and the answer.
+#[tactic(auto, using(crate::proofs::Spaced::spaced_none, crate::proofs::Spaced::spaced_more, crate::proofs::Spaced::spaced_all))]
 pub(crate) fn write_line(
     heap: Global,
     words: &[&[u8]],

@@ -1,6 +1,5 @@
 // The word that a statement begins with.
 ghost use Rattle.std.specs.Prelude.{◌≡◌};
-ghost use Rattle.std.specs.Str.{bytes_eq};
 ghost use Rattle.script.specs.Statement.{verb_of};
 
 use crate::reason::Reason;
@@ -15,29 +14,20 @@ pub(crate) enum Verb {
     PutHalf,
 }
 
-// Is a word this name?
-pub(crate) fn is(word: &[u8], name: &[u8]) -> bool
-    ensures { result ≡ bytes_eq word.now name.now }
-{
-    word == name
-}
+impl TryFrom<&[u8]> for Verb {
+    type Error = Reason;
 
-pub(crate) fn read_verb(word: &[u8]) -> Result<Verb, Reason>
-    ensures { result ≡ verb_of word.now }
-{
-    if is(word, b"memory") {
-        Ok(Verb::Memory)
-    } else if is(word, b"raw") {
-        Ok(Verb::Raw)
-    } else if is(word, b"count") {
-        Ok(Verb::Count)
-    } else if is(word, b"fetch") {
-        Ok(Verb::Fetch)
-    } else if is(word, b"put") {
-        Ok(Verb::Put)
-    } else if is(word, b"put-half") {
-        Ok(Verb::PutHalf)
-    } else {
-        Err(Reason::UnknownWord)
+    ghost try_from_gives = { λ word verb. verb ≡ verb_of word.now };
+
+    fn try_from(word: &[u8]) -> Result<Self, Reason> {
+        match word {
+            b"memory" => Ok(Verb::Memory),
+            b"raw" => Ok(Verb::Raw),
+            b"count" => Ok(Verb::Count),
+            b"fetch" => Ok(Verb::Fetch),
+            b"put" => Ok(Verb::Put),
+            b"put-half" => Ok(Verb::PutHalf),
+            _ => Err(Reason::UnknownWord),
+        }
     }
 }

@@ -1,5 +1,5 @@
 -- A cell is two halves, each a number below 32,768 with a mark, good or spoiled.
-use Rattle.std.specs.Prelude.{ℕ, ◌^◌, ◌<◌, Bool, true, List, slice_index_or}
+use Rattle.std.specs.Prelude.{ℕ, ◌^◌, ◌<◌, Bool, true, Option, Some, None, if◌then◌else◌, List, slice_index_or}
 use Rattle.words.specs.Words.{half_bits, upper_half, lower_half}
 use Rattle.store.specs.declared.half.Half.{Half}
 use Rattle.store.specs.declared.half.Half.TheVariants.{Upper, Lower}
@@ -15,6 +15,10 @@ pub record HalfCell : Type 0 where
 pub record Cell : Type 0 where
   pub upper : HalfCell
   pub lower : HalfCell
+
+-- the number of a half, if it is good
+abbrev pub value_of : HalfCell → Option ℕ
+value_of h = if h.good then Some h.value else None
 
 -- one half of a cell, and the other one
 abbrev pub part : Cell → Half → HalfCell

@@ -1,5 +1,5 @@
 -- What the functions of a store answer, and the row after a put, over the row of cells.
-use Rattle.std.specs.Prelude.{ℕ, cond, List, length, Ok, Err, Result, nat_lt, slice_set}
+use Rattle.std.specs.Prelude.{ℕ, if◌then◌else◌, List, length, Ok, Err, Result, nat_lt, slice_set}
 use Rattle.words.specs.Words.{joined}
 use Rattle.store.specs.declared.half.Half.{Half}
 use Rattle.store.specs.declared.half.Half.TheVariants.{Upper, Lower}
@@ -9,11 +9,11 @@ use Rattle.store.specs.Cells.{Cell, part, other_half, good_cell, with_half, cell
 
 -- what is answered of a cell of the row; there is none at the count and past it
 abbrev pub within : {X : Type 0} → List Cell → ℕ → Result X Fault → Result X Fault
-within cs a r = cond (nat_lt a (length cs)) r (Err NoCell)
+within cs a r = if nat_lt a (length cs) then r else Err NoCell
 
 -- what is answered if a half is good
 abbrev pub if_good : {X : Type 0} → Cell → Half → Result X Fault → Result X Fault
-if_good c h r = cond (part c h).good r (Err (Spoiled h))
+if_good c h r = if (part c h).good then r else Err (Spoiled h)
 
 -- the word of a cell; the upper half is looked at first
 abbrev pub word_of : Cell → Result ℕ Fault

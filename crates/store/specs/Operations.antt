@@ -1,6 +1,7 @@
 -- What a list of a store's functions answers and leaves, over the row of cells.
-use Rattle.std.specs.Prelude.{◌≡◌, cond, List, [], ◌∷◌, length, is_ok}
+use Rattle.std.specs.Prelude.{◌≡◌, ℕ, Bool, false, if◌then◌else◌, List, [], ◌∷◌, length, is_ok, MatchBool}
 use Rattle.store.specs.Cells.{Cell}
+use Rattle.store.specs.declared.half.Half.{Half}
 use Rattle.store.specs.Functions.{fetched, put_whole_answer, put_half_answer, whole_put, half_put}
 use Rattle.store.specs.declared.operation.Operation.{Operation}
 use Rattle.store.specs.declared.operation.Operation.TheVariants.{Count, Fetch, PutWhole, PutHalf}
@@ -17,15 +18,28 @@ replied cs (PutHalf a h v) = Put (put_half_answer cs a.0 h)
 abbrev pub left : List Cell → Operation → List Cell
 left cs Count = cs
 left cs (Fetch a) = cs
-left cs (PutWhole a w) = cond (is_ok (put_whole_answer cs a.0)) (whole_put cs a.0 w) cs
-left cs (PutHalf a h v) = cond (is_ok (put_half_answer cs a.0 h)) (half_put cs a.0 h v) cs
+left cs (PutWhole a w) = if is_ok (put_whole_answer cs a.0) then whole_put cs a.0 w else cs
+left cs (PutHalf a h v) = if is_ok (put_half_answer cs a.0 h) then half_put cs a.0 h v else cs
+
+-- was it a put, and was it taken?
+abbrev pub is_taken : Reply → Bool
+is_taken (Counted n) = false
+is_taken (Fetched r) = false
+is_taken (Put r) = is_ok r
+
+-- what one function does to the store itself: a put that is taken does what such a put does, and anything else leaves it as it was
+abbrev pub Does : {S : Type 0} → (S → ℕ → ℕ → S → Type 0) → (S → ℕ → Half → ℕ → S → Type 0) → Operation → Reply → S → S → Type 0
+Does whole half Count r s t = t ≡ s
+Does whole half (Fetch a) r s t = t ≡ s
+Does whole half (PutWhole a w) r s t = MatchBool (is_taken r) (whole s a.0 w t) (t ≡ s)
+Does whole half (PutHalf a h v) r s t = MatchBool (is_taken r) (half s a.0 h v t) (t ≡ s)
 
 -- one after another: what they answer, and the row after the last
-unfoldable pub replies : List Cell → List Operation → List Reply
+abbrev pub replies : List Cell → List Operation → List Reply
 replies cs [] = []
 replies cs (o ∷ os) = replied cs o ∷ replies (left cs o) os
 
-unfoldable pub left_by : List Cell → List Operation → List Cell
+abbrev pub left_by : List Cell → List Operation → List Cell
 left_by cs [] = cs
 left_by cs (o ∷ os) = left_by (left cs o) os
 

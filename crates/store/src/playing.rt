@@ -2,37 +2,8 @@
 ghost use Rattle.std.specs.Prelude.{◌≡◌, ◌+◌, ◌<◌, ◌≤◌, [], ◌∷◌, ◌++◌, length, is_ok, IfOk, if◌then◌else◌, vec_len, vec_capacity};
 ghost use Rattle.store.specs.Operations.{replied, left, replies, left_by, Alike};
 
-use super::Store;
-use super::operation::{Operation, Reply};
+use super::{Operation, Reply, Store, perform};
 use std::alloc::{AllocError, Global};
-
-// Does one function of a store.
-fn perform<S: Store>(store: &mut S, operation: Operation) -> Reply
-    ensures answer { result ≡ replied (S.cells store.old) operation }
-    ensures after { S.cells store.new ≡ left (S.cells store.old) operation }
-{
-    match operation {
-        Operation::Count => Reply::Counted(store.count()),
-        Operation::Fetch(address) => Reply::Fetched(store.fetch(address)),
-        Operation::PutWhole { address, word } => Reply::Put(store.put_whole(address, word)),
-        Operation::PutHalf {
-            address,
-            half,
-            value,
-        } => Reply::Put(store.put_half(address, half, value)),
-    }
-}
-
-// Does one, and adds its answer to some that have the room.
-fn play_one<S: Store>(answers: &mut Vec<Reply>, store: &mut S, operation: Operation)
-    requires { vec_len answers.old < vec_capacity answers.old }
-    ensures answers { answers.new.items ≡ answers.old.items ++ replied (S.cells store.old) operation ∷ [] }
-    ensures after { S.cells store.new ≡ left (S.cells store.old) operation }
-    ensures len { vec_len answers.new ≡ vec_len answers.old + 1 }
-    ensures capacity { vec_capacity answers.new ≡ vec_capacity answers.old }
-{
-    answers.push_reserved(perform(store, operation));
-}
 
 // Does a list of them, and adds the answers.
 fn play_into<S: Store>(answers: &mut Vec<Reply>, store: &mut S, operations: &[Operation])
@@ -41,7 +12,7 @@ fn play_into<S: Store>(answers: &mut Vec<Reply>, store: &mut S, operations: &[Op
     ensures after { S.cells store.new ≡ left_by (S.cells store.old) operations.now }
 {
     for operation in operations {
-        play_one(answers, store, *operation);
+        answers.push_reserved(perform(store, *operation));
     }
 }
 

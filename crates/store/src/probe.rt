@@ -6,9 +6,10 @@ ghost use Rattle.store.specs.declared.fault.Fault.TheVariants.{NoCell};
 ghost use Rattle.store.specs.Functions.{fetched, word_of, whole_put, half_put};
 
 use super::{CellAddress, Fault, Half, Store};
+use words::Word;
 
 // Puts a word and fetches it again: the cell has the word's 30 bits, and every other cell what it had.
-pub fn probe_whole<S: Store>(store: &mut S, address: CellAddress, word: u32) -> Result<u32, Fault>
+pub fn probe_whole<S: Store>(store: &mut S, address: CellAddress, word: u32) -> Result<Word, Fault>
     ensures answer { result ≡ (if nat_lt address.0 (length (S.cells store.old)) then Ok (word_bits word) else Err NoCell) }
     ensures after { S.cells store.new ≡ (if is_ok result then whole_put (S.cells store.old) address.0 word else S.cells store.old) }
     ensures same_cell { fetched (S.cells store.new) address.0 ≡ result }
@@ -25,7 +26,7 @@ pub fn probe_half<S: Store>(
     address: CellAddress,
     half: Half,
     value: u32,
-) -> Result<u32, Fault>
+) -> Result<Word, Fault>
     ensures answer { result ≡ (if nat_lt address.0 (length (S.cells store.old)) then word_of (with_half (cell_at (S.cells store.old) address.0) half value) else Err NoCell) }
     ensures after { S.cells store.new ≡ (if is_ok result then half_put (S.cells store.old) address.0 half value else S.cells store.old) }
     ensures other_cells { (a : ℕ) → (a ≢ address.0) → fetched (S.cells store.new) a ≡ fetched (S.cells store.old) a }

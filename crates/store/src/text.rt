@@ -3,8 +3,8 @@ ghost use Rattle.std.specs.Prelude.{Some};
 ghost use Rattle.store.specs.Text.{half_text, fault_text, reply_text};
 
 use super::{Fault, Half, Reply};
+use std::error::Error;
 use std::fmt;
-use words::OctalWord;
 
 impl fmt::Display for Half {
     ghost output = { λ h. Some (half_text h) };
@@ -28,16 +28,15 @@ impl fmt::Display for Fault {
     }
 }
 
+impl Error for Fault {}
+
 impl fmt::Display for Reply {
     ghost output = { λ reply. Some (reply_text reply) };
 
     fn fmt<W: fmt::Write>(&self, f: &mut fmt::Formatter<W>) -> fmt::Result {
         match *self {
             Reply::Counted(count) => write!(f, "{count}"),
-            Reply::Fetched(Ok(word)) => {
-                let word = OctalWord(word);
-                write!(f, "{word}")
-            }
+            Reply::Fetched(Ok(word)) => write!(f, "{word}"),
             Reply::Put(Ok(())) => write!(f, "ok"),
             Reply::Fetched(Err(fault)) | Reply::Put(Err(fault)) => write!(f, "{fault}"),
         }

@@ -1,8 +1,9 @@
-pub mod Parity
-pub mod Word
-pub mod ParityRow
 pub mod Cut
+pub mod Mapped
+pub mod Memory
 pub mod Odd
 pub mod Paired
+pub mod Parity
+pub mod ParityRow
+pub mod Word
 pub mod WordRow
-pub mod Mapped

@@ -1,10 +1,11 @@
 -- The parity store's memory: two 16-bit numbers for each cell, the upper half first.
-use Rattle.std.specs.Prelude.{ℕ, ◌+◌, ◌*◌, ◌/◌, ◌%◌, ◌^◌, min, cond, List, [], ◌∷◌, length, take, vec_items, ◌==◌, count_ones, slice_set}
+use Rattle.std.specs.Prelude.{ℕ, ◌+◌, ◌*◌, ◌/◌, ◌%◌, ◌^◌, min, if◌then◌else◌, List, [], ◌∷◌, length, take, ◌==◌, count_ones, slice_set}
 use Rattle.words.specs.Words.{half_bits, upper_half, lower_half}
 use Rattle.store.specs.declared.half.Half.{Half}
 use Rattle.store.specs.declared.half.Half.TheVariants.{Upper, Lower}
 use Rattle.store.specs.Cells.{HalfCell, Cell, cell_at, most_cells}
-use Rattle.stores.specs.declared.parity.ParityStore.{ParityStore}
+use Rattle.stores.specs.declared.memory.Memory.{Memory}
+use Rattle.stores.specs.Memory.{numbers}
 
 -- bits 14 to 0 are the half; it is good exactly if all sixteen bits hold an odd number of ones
 abbrev pub half_of : ℕ → HalfCell
@@ -30,7 +31,7 @@ row_of memory = take most_cells (paired memory)
 
 -- the number that holds a half: bit 15 makes the number of ones odd
 abbrev pub half_number : ℕ → ℕ
-half_number v = cond (count_ones (half_bits v) % 2 == 1) (half_bits v) (2 ^ 15 + half_bits v)
+half_number v = if count_ones (half_bits v) % 2 == 1 then half_bits v else 2 ^ 15 + half_bits v
 
 -- where the number of a half stands in the memory
 abbrev pub index_of : ℕ → Half → ℕ
@@ -46,7 +47,7 @@ whole_written memory a w = half_written (half_written memory a Upper (upper_half
 
 -- the half that a number of the memory is: the even ones are upper halves
 abbrev pub half_at : ℕ → Half
-half_at i = cond (i % 2 == 0) Upper Lower
+half_at i = if i % 2 == 0 then Upper else Lower
 
 -- a cell with another number under one half
 abbrev pub with_number : Cell → Half → ℕ → Cell
@@ -57,9 +58,6 @@ with_number c Lower x = record { upper = c.upper; lower = half_of x }
 abbrev pub number_replaced : List Cell → ℕ → ℕ → List Cell
 number_replaced cs i x = slice_set cs (i / 2) (with_number (cell_at cs (i / 2)) (half_at i) x)
 
--- a parity store's memory, and the row of cells that it means
-abbrev pub numbers : ParityStore → List ℕ
-numbers s = vec_items s.memory
-
-abbrev pub row : ParityStore → List Cell
+-- the row of cells that a parity store means
+abbrev pub row : Memory ℕ → List Cell
 row s = row_of (numbers s)

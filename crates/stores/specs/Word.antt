@@ -1,10 +1,11 @@
 -- The word store's memory: a 32-bit number for each cell.
-use Rattle.std.specs.Prelude.{ℕ, ◌/◌, ◌%◌, ◌^◌, min, Bool, List, map, length, take, vec_items, ◌==◌}
+use Rattle.std.specs.Prelude.{ℕ, ◌/◌, ◌%◌, ◌^◌, min, Bool, List, map, length, take, ◌==◌, slice_set}
 use Rattle.words.specs.Words.{upper_half, lower_half, joined}
 use Rattle.store.specs.declared.half.Half.{Half}
 use Rattle.store.specs.declared.half.Half.TheVariants.{Upper, Lower}
 use Rattle.store.specs.Cells.{Cell, most_cells}
-use Rattle.stores.specs.declared.word.WordStore.{WordStore}
+use Rattle.stores.specs.declared.memory.Memory.{Memory}
+use Rattle.stores.specs.Memory.{numbers}
 
 -- bit k of a number is 0
 abbrev pub is_clear : ℕ → ℕ → Bool
@@ -30,9 +31,10 @@ abbrev pub half_written : ℕ → Half → ℕ → ℕ
 half_written x Upper v = joined v (lower_half x)
 half_written x Lower v = joined (upper_half x) v
 
--- a word store's memory, and the row of cells that it means
-abbrev pub numbers : WordStore → List ℕ
-numbers s = vec_items s.memory
+-- the row after number i of the memory became x
+abbrev pub number_replaced : List Cell → ℕ → ℕ → List Cell
+number_replaced cs i x = slice_set cs i (cell_of x)
 
-abbrev pub row : WordStore → List Cell
+-- the row of cells that a word store means
+abbrev pub row : Memory ℕ → List Cell
 row s = row_of (numbers s)

@@ -1,6 +1,7 @@
 use super::{ParityStore, WordStore};
 use std::test::Fail;
 use store::{CellAddress, Fault, Half, Store, probe_half, probe_whole};
+use words::word_bits;
 
 const WORD: u32 = 0o1234567012;
 
@@ -16,7 +17,7 @@ fn fetch_tells_the_upper_mark_first(rt: HostRuntime) -> Result<(), Fail> {
         UPPER_SPOILED,
         0xffff_ffff,
     ]?);
-    assert_eq!(rt; store.fetch(CellAddress(0)), Ok(WORD));
+    assert_eq!(rt; store.fetch(CellAddress(0)), Ok(word_bits(WORD)));
     assert_eq!(rt;
         store.fetch(CellAddress(1)),
         Err(Fault::Spoiled(Half::Lower))
@@ -45,7 +46,7 @@ fn puts_mend_what_they_put(rt: HostRuntime) -> Result<(), Fail> {
     );
     assert_eq!(rt;
         probe_half(&mut store, CellAddress(0), Half::Upper, 0o77777),
-        Ok(0o7777767012)
+        Ok(word_bits(0o7777767012))
     );
     assert_eq!(rt;
         probe_half(&mut store, CellAddress(1), Half::Upper, 1),
@@ -53,11 +54,11 @@ fn puts_mend_what_they_put(rt: HostRuntime) -> Result<(), Fail> {
     );
     assert_eq!(rt;
         probe_half(&mut store, CellAddress(1), Half::Lower, 0o100001),
-        Ok(0o1234500001)
+        Ok(word_bits(0o1234500001))
     );
     assert_eq!(rt;
         probe_whole(&mut store, CellAddress(2), 0xffff_ffff),
-        Ok(0o7777777777)
+        Ok(word_bits(0o7777777777))
     );
     Ok(())
 }
@@ -66,7 +67,7 @@ fn puts_mend_what_they_put(rt: HostRuntime) -> Result<(), Fail> {
 fn there_is_no_cell_at_the_count(rt: HostRuntime) -> Result<(), Fail> {
     let mut store = WordStore::new(vec![in rt.alloc(); 1, 2, 3]?);
     assert_eq!(rt; store.count(), 3);
-    assert_eq!(rt; store.fetch(CellAddress(2)), Ok(3));
+    assert_eq!(rt; store.fetch(CellAddress(2)), Ok(word_bits(3)));
     assert_eq!(rt; store.fetch(CellAddress(3)), Err(Fault::NoCell));
     assert_eq!(rt; store.put_whole(CellAddress(3), 0), Err(Fault::NoCell));
     assert_eq!(rt;
@@ -80,7 +81,10 @@ fn there_is_no_cell_at_the_count(rt: HostRuntime) -> Result<(), Fail> {
 fn numbers_past_the_last_cell_stay(rt: HostRuntime) -> Result<(), Fail> {
     let mut store = WordStore::new(vec![in rt.alloc(); 7; 131_074]?);
     assert_eq!(rt; store.count(), 131_072);
-    assert_eq!(rt; probe_whole(&mut store, CellAddress(131_071), 5), Ok(5));
+    assert_eq!(rt;
+        probe_whole(&mut store, CellAddress(131_071), 5),
+        Ok(word_bits(5))
+    );
     assert_eq!(rt;
         store.put_whole(CellAddress(131_072), 5),
         Err(Fault::NoCell)
@@ -97,7 +101,7 @@ fn numbers_past_the_last_cell_stay(rt: HostRuntime) -> Result<(), Fail> {
 #[test]
 fn a_half_is_good_if_its_ones_are_odd(rt: HostRuntime) -> Result<(), Fail> {
     let mut store = ParityStore::new(vec![in rt.alloc(); 32_768, 32_771, 0, 3, 0, 32_768, 1, 3]?);
-    assert_eq!(rt; store.fetch(CellAddress(0)), Ok(3));
+    assert_eq!(rt; store.fetch(CellAddress(0)), Ok(word_bits(3)));
     assert_eq!(rt;
         store.fetch(CellAddress(1)),
         Err(Fault::Spoiled(Half::Upper))
@@ -111,7 +115,7 @@ fn a_half_is_good_if_its_ones_are_odd(rt: HostRuntime) -> Result<(), Fail> {
         Err(Fault::Spoiled(Half::Lower))
     );
     assert_eq!(rt; store.replace_number(7, 2), Some(3));
-    assert_eq!(rt; store.fetch(CellAddress(3)), Ok(0o0000100002));
+    assert_eq!(rt; store.fetch(CellAddress(3)), Ok(word_bits(0o0000100002)));
     Ok(())
 }
 
@@ -124,7 +128,7 @@ fn parity_puts_mend_what_they_put(rt: HostRuntime) -> Result<(), Fail> {
     );
     assert_eq!(rt;
         probe_half(&mut store, CellAddress(0), Half::Upper, 0o77777),
-        Ok(0o7777700003)
+        Ok(word_bits(0o7777700003))
     );
     assert_eq!(rt;
         probe_half(&mut store, CellAddress(1), Half::Upper, 1),
@@ -132,11 +136,11 @@ fn parity_puts_mend_what_they_put(rt: HostRuntime) -> Result<(), Fail> {
     );
     assert_eq!(rt;
         probe_half(&mut store, CellAddress(1), Half::Lower, 0o100001),
-        Ok(0o0000300001)
+        Ok(word_bits(0o0000300001))
     );
     assert_eq!(rt;
         probe_whole(&mut store, CellAddress(2), 0o10000300000),
-        Ok(0o0000300000)
+        Ok(word_bits(0o0000300000))
     );
     assert_eq!(rt;
         store.into_memory().as_slice(),
@@ -149,7 +153,7 @@ fn parity_puts_mend_what_they_put(rt: HostRuntime) -> Result<(), Fail> {
 fn an_odd_last_number_is_no_cell(rt: HostRuntime) -> Result<(), Fail> {
     let mut store = ParityStore::new(vec![in rt.alloc(); 7; 5]?);
     assert_eq!(rt; store.count(), 2);
-    assert_eq!(rt; store.fetch(CellAddress(1)), Ok(0o0000700007));
+    assert_eq!(rt; store.fetch(CellAddress(1)), Ok(word_bits(0o0000700007)));
     assert_eq!(rt; store.fetch(CellAddress(2)), Err(Fault::NoCell));
     assert_eq!(rt; store.put_whole(CellAddress(2), 0), Err(Fault::NoCell));
     assert_eq!(rt;
@@ -168,7 +172,10 @@ fn an_odd_last_number_is_no_cell(rt: HostRuntime) -> Result<(), Fail> {
 fn numbers_past_131072_cells_stay(rt: HostRuntime) -> Result<(), Fail> {
     let mut store = ParityStore::new(vec![in rt.alloc(); 7; 262_147]?);
     assert_eq!(rt; store.count(), 131_072);
-    assert_eq!(rt; probe_whole(&mut store, CellAddress(131_071), 5), Ok(5));
+    assert_eq!(rt;
+        probe_whole(&mut store, CellAddress(131_071), 5),
+        Ok(word_bits(5))
+    );
     assert_eq!(rt;
         store.put_whole(CellAddress(131_072), 5),
         Err(Fault::NoCell)

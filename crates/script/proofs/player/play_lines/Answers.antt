@@ -1,15 +1,45 @@
-use Rattle.std.proofs.Common.{sym, ap, ◌∙◌, arith, rules}
-use Rattle.script.specs.Play.{line_bytes_of}
+use Rattle.std.proofs.Common.{◌≡◌, ◌+◌, Ok, vec_items, ◌∙◌, rules, tests}
+use Rattle.std.specs.Option.{option_map}
+use Rattle.script.specs.Play.{line_played, line_left}
+use Rattle.script.specs.Script.{grown}
 use Rattle.script.proofs.Following.{played_on, played_bad, played_all}
+use Rattle.script.proofs.Lines.{parts_of, is_line_feed}
+use Rattle.std.proofs.lemmas.Iterator.Consumers.{YieldsList-at, YieldsList-from_enumerate, YieldsList-turn, YieldsList-end}
+use Rattle.std.proofs.lemmas.Iterator.Splits.{YieldsList-from_slice_split}
 use Rattle.script.proofs.player.play_lines.Goals as goal
 
 pub loop-index-preserved : goal.loop-index-preserved
-loop-index-preserved c = search (rules, played_on)
+loop-index-preserved c =
+    let turn = YieldsList-turn
+    (YieldsList-at c.into_iter-index-iterator.ensures.into_iter_gives
+    (YieldsList-from_enumerate
+    (YieldsList-at c.enumerate-index-items.ensures.source
+    (YieldsList-from_slice_split _ is_line_feed c.args.script.now c.split.ensures.rest c.split.ensures.done c.split.ensures.closure (λ x r q k. search (rules, tests))))
+    c.enumerate-index-items.ensures.count))
+    c.loop-index.yielded _ c.loop-index.yielded_by _ _ _ c.in-Some.is c.next.ensures.steps in
+    let said : Ok (option_map vec_items c.in_ok-text.text) ≡ line_played c.loop-index.session (c.in-Some.index + 1) c.in-Some.line.now = search rules in
+    let grows : vec_items c.extend.new.transcript ≡ grown (vec_items c.loop-index.transcript) (option_map vec_items c.in_ok-text.text) = search rules in
+    let leaves : c.play_line.new.self ≡ line_left c.loop-index.session c.in-Some.line.now = search rules in
+    played_on _ _ (parts_of c.args.script.now) c.loop-index.yielded c.in-Some.index c.in-Some.line.now turn _ _ _ _ said grows leaves ∙ c.loop-index.invariant
 
-pub returns-in-Err : goal.returns-in-Err
-returns-in-Err c =
-    let said = sym (ap line_bytes_of c.in-Err.is) ∙ c.in_ok-text.ensures.answer in
-    sym (played_bad _ _ c.args.lines.now c.loop-index.index (omega arith) _ _ said) ∙ c.loop-index.invariant
+pub returns-in_err-text : goal.returns-in_err-text
+returns-in_err-text c =
+    let turn = YieldsList-turn
+    (YieldsList-at c.into_iter-index-iterator.ensures.into_iter_gives
+    (YieldsList-from_enumerate
+    (YieldsList-at c.enumerate-index-items.ensures.source
+    (YieldsList-from_slice_split _ is_line_feed c.args.script.now c.split.ensures.rest c.split.ensures.done c.split.ensures.closure (λ x r q k. search (rules, tests))))
+    c.enumerate-index-items.ensures.count))
+    c.loop-index.yielded _ c.loop-index.yielded_by _ _ _ c.in-Some.is c.next.ensures.steps in
+    search (rules, played_bad)
 
 pub returns : goal.returns
-returns c = search (rules, played_all)
+returns c =
+    let end = YieldsList-end
+    (YieldsList-at c.into_iter-index-iterator.ensures.into_iter_gives
+    (YieldsList-from_enumerate
+    (YieldsList-at c.enumerate-index-items.ensures.source
+    (YieldsList-from_slice_split _ is_line_feed c.args.script.now c.split.ensures.rest c.split.ensures.done c.split.ensures.closure (λ x r q k. search (rules, tests))))
+    c.enumerate-index-items.ensures.count))
+    c.loop-index.yielded _ c.loop-index.yielded_by _ _ c.in-None.is c.next.ensures.steps in
+    search (rules, played_all)

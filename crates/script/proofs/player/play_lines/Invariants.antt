@@ -1,8 +1,7 @@
-use Rattle.std.proofs.Common.{◌≡◌, ◌+◌, [], drop, None, vec_items}
-use Rattle.script.specs.Line.{texts}
+use Rattle.std.proofs.Common.{◌≡◌, ◌+◌, length, drop, None, vec_items}
 use Rattle.script.specs.Script.{lines_played}
-use Rattle.script.specs.Session.{memory_of}
+use Rattle.script.proofs.Lines.{parts_of}
 use Rattle.script.proofs.player.play_lines.Given as goal
 
 abbrev pub invariant-loop-index : goal.invariant-loop-index
-invariant-loop-index l = lines_played (vec_items l.transcript) (memory_of l.session) (l.index + 1) (drop l.index (texts l.lines)) ≡ lines_played [] None 1 (texts l.lines)
+invariant-loop-index l = lines_played (vec_items l.transcript) l.session (length l.yielded + 1) (drop (length l.yielded) (parts_of l.script)) ≡ lines_played (vec_items l.fn.transcript) None 1 (parts_of l.script)

@@ -2,8 +2,13 @@ use Rattle.std.proofs.Common.{◌≡◌, ◌+◌, ◌≤◌, ◌++◌, length, d
 use Rattle.store.specs.Operations.{replies, left_by}
 use Rattle.store.proofs.playing.play_into.Given as goal
 
+-- the answers so far and those to what is left are those to all, and there is room for them
 abbrev pub invariant-loop-operation : goal.invariant-loop-operation
 invariant-loop-operation g l =
-    (vec_items l.answers ++ replies (g.S.Store.cells l.store) (drop l.operation-index l.operations) ≡ vec_items l.initial.answers ++ replies (g.S.Store.cells l.initial.store) l.operations)
-    × (left_by (g.S.Store.cells l.store) (drop l.operation-index l.operations) ≡ left_by (g.S.Store.cells l.initial.store) l.operations)
-    × (vec_len l.answers + length l.operations ≤ vec_capacity l.answers + l.operation-index)
+    let cells = g.S.Store.cells in
+    let rest = drop l.operation-index l.operations in
+    record {
+      told : vec_items l.answers ++ replies (cells l.store) rest ≡ vec_items l.initial.answers ++ replies (cells l.initial.store) l.operations;
+      leaves : left_by (cells l.store) rest ≡ left_by (cells l.initial.store) l.operations;
+      room : vec_len l.answers + length l.operations ≤ vec_capacity l.answers + l.operation-index;
+    }

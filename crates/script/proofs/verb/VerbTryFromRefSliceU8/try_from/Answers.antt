@@ -1,0 +1,11 @@
+use Rattle.std.proofs.Common.{codes, arith, rules}
+use Rattle.std.proofs.lemmas.Slice.Eq.{text_from_reads}
+use Rattle.script.proofs.verb.VerbTryFromRefSliceU8.try_from.Goals as goal
+
+pub returns-in-memory : goal.returns-in-memory
+returns-in-memory c =
+    let is = text_from_reads c.args.word.now (codes "memory") (omega arith) (search rules) in rw is
+
+pub returns-in-112 : goal.returns-in-112
+returns-in-112 c =
+    let is = text_from_reads c.args.word.now (codes "put-half") (omega arith) (search rules) in rw is
