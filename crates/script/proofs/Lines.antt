@@ -1,7 +1,16 @@
 -- The lines of a script are the parts between line feeds, but for an empty last one, which plays as nothing.
-use Rattle.std.proofs.Common.{◌≡◌, ℕ, ◌+◌, ◌<◌, Bool, true, false, cond, List, [], ◌∷◌, ◌++◌, length, None, Ok, Err, Option, Result, sym, refl, ap, ◌∙◌, append-nil, arith}
+use Rattle.std.proofs.Common.{◌≡◌, ℕ, ◌+◌, ◌<◌, Bool, true, false, cond, List, [], ◌∷◌, ◌++◌, length, None, Ok, Err, Option, Result, Bor, sym, refl, ap, ◌∙◌, append-nil, arith}
 use Rattle.std.specs.Prelude.{◌==◌}
-use Rattle.std.specs.List.{onto_first, slice_split}
+use Rattle.std.specs.List.{enumerate_from, onto_first, slice_split}
+use denote.Param.Members.{Mut}
+use Rattle.std.specs.declared.iter.Enumerate.{Enumerate}
+use Rattle.std.specs.declared.slice.Split.{Split}
+use Rattle.std.specs.Fn.{CalledAt}
+use Rattle.std.specs.Iterator.Adapters.{enumerate_source, enumerate_count, enumerate_steps}
+use Rattle.std.specs.Slice.Iter.{split_rest, split_done, split_callee, split_steps}
+use Rattle.std.proofs.lemmas.Iterator.{YieldsList}
+use Rattle.std.proofs.lemmas.Iterator.Consumers.{YieldsList-at, YieldsList-from_enumerate}
+use Rattle.std.proofs.lemmas.Iterator.Splits.{YieldsList-from_slice_split}
 use Rattle.std.proofs.lemmas.List.Splits.{length-slice_split}
 use Rattle.script.specs.declared.problem.Problem.{Problem}
 use Rattle.script.specs.Line.{begun, lines_after}
@@ -57,3 +66,12 @@ pub parts_play : (script : List ℕ) → lines_played [] None 1 (parts_of script
 parts_play script =
     trimmed_plays [] None 1 (parts_of script)
     ∙ ap (lines_played [] None 1) (ap trimmed (sym (onto_none (parts_of script) (has_parts script))) ∙ sym (lines_split_after [] script))
+
+-- a script that is split at its line feeds and counted gives its parts, numbered from 0
+pub numbered_parts : {F : Type 0} (g : Mut F (Bor ℕ × Unit {0}) Bool) {f : F} {split : Split ℕ F} {items iterator : Enumerate (Split ℕ F)} (script : List ℕ)
+    → iterator ≡ items → enumerate_source items ≡ split → enumerate_count items ≡ 0
+    → split_rest split ≡ script → split_done split ≡ false → split_callee split ≡ f
+    → ((x : ℕ) (b : Bool) (q : F) → CalledAt g f x b q → (q ≡ f) × (b ≡ is_line_feed x))
+    → YieldsList (enumerate_steps (split_steps g)) (λ (p : ℕ × Bor (List ℕ)). (p.0, p.1.now)) iterator (enumerate_from 0 (parts_of script))
+numbered_parts g script gives source count rest done callee computes =
+    YieldsList-at gives (YieldsList-from_enumerate (YieldsList-at source (YieldsList-from_slice_split g is_line_feed script rest done callee computes)) count)

@@ -9,7 +9,7 @@ use crate::problem::Problem;
 use crate::session::Session;
 use std::alloc::{AllocError, Global};
 
-// What a script comes to: the transcript up to its end or its first bad line, and what is wrong with that.
+// What a script comes to: the transcript up to its end or its first bad line, and what is wrong with that. No Result, since a bad line has both.
 #[derive(Drop)]
 pub struct Played {
     pub transcript: Vec<u8>,

@@ -113,6 +113,7 @@ fn put_half(args: &[&[u8]]) -> Result<Statement, Reason>
     }))
 }
 
+// A match and no table of functions, which would say the same in another place.
 fn read_arguments(verb: Verb, args: &[&[u8]]) -> Result<Statement, Reason>
     ensures { result ≡ with_verb verb (texts args.now) }
 {

@@ -16,6 +16,7 @@ pub(crate) fn write_line(
     ensures { IfOk result (λ v. v.items ≡ line_text (texts words.now) answer) }
 {
     let mut text = Vec::new(heap);
+    // A loop, since words are bytes and no text that a `join` or a `write!` takes.
     for word in words {
         text.extend_from_slice(word)?;
         text.push(b' ')?;

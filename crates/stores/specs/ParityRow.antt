@@ -1,5 +1,5 @@
 -- The laws of the parity store's row: its length, its halves, and what a changed number changes.
-use Rattle.std.specs.Prelude.{◌≡◌, ℕ, ◌/◌, ◌^◌, ◌<◌, ◌≤◌, min, List, length, take, set, Some, slice_get, slice_index, slice_set}
+use Rattle.std.specs.Prelude.{◌≡◌, ℕ, ◌+◌, ◌*◌, ◌/◌, ◌%◌, ◌^◌, ◌<◌, ◌≤◌, min, List, length, take, set, Some, slice_get, slice_index, slice_set}
 use Rattle.std.proofs.Common.{⊎_elim, sym, ap, subst, ◌∙◌, arith}
 use Rattle.std.proofs.lemmas.Option.{get_or_from_slice_get}
 use Rattle.std.proofs.lemmas.List.{set_past, set-set, get_or-set_same}
@@ -7,10 +7,11 @@ use Rattle.std.proofs.lemmas.Bool.{cases_lt}
 use Rattle.words.specs.Words.{upper_half, lower_half}
 use Rattle.store.specs.declared.half.Half.{Half}
 use Rattle.store.specs.declared.half.Half.TheVariants.{Upper, Lower}
-use Rattle.store.specs.Cells.{HalfCell, Cell, CellFits, cell_at, part, with_half, good_cell, most_cells}
+use Rattle.store.specs.Cells.{HalfCell, Cell, CellFits, cell_at, part, good_half, with_half, good_cell, most_cells}
 use Rattle.store.specs.Functions.{half_put, whole_put}
-use Rattle.stores.specs.Parity.{half_of, paired, cell_count, row_of, index_of, half_at, with_number, number_replaced}
+use Rattle.stores.specs.Parity.{half_of, paired, cell_count, row_of, half_number, index_of, half_written, whole_written, half_at, with_number, number_replaced}
 use Rattle.stores.specs.Cut.{length_cut, cut_within, cut_at, cut_changed}
+use Rattle.stores.specs.Odd.{half_number_good}
 use Rattle.stores.specs.Paired.{length_paired, paired_set, paired_at}
 
 pub length_row : (xs : List ℕ) → length (row_of xs) ≡ cell_count xs
@@ -43,9 +44,25 @@ row_replaced xs i y =
     ap (take most_cells) (paired_set xs i y)
     ∙ cut_changed most_cells (paired xs) (λ c. with_number c (half_at i) y) (i / 2) (good_cell 0)
 
+-- a number that holds a good half, under one half of a cell
+with_good : (c : Cell) (h : Half) (x v : ℕ) → half_of x ≡ good_half v → with_number c h x ≡ with_half c h v
+with_good c Upper x v good = let make : HalfCell → Cell = λ half. record { upper = half; lower = c.lower } in ap make good
+with_good c Lower x v good = let make : HalfCell → Cell = λ half. record { upper = c.upper; lower = half } in ap make good
+
 module _ (cs : List Cell) (a : ℕ) where
+  -- the number at a half's place is that half of that cell
+  replaced_at : (h : Half) (x : ℕ) → number_replaced cs (index_of a h) x ≡ slice_set cs a (with_number (cell_at cs a) h x)
+  replaced_at Upper x =
+      let cell : 2 * a / 2 ≡ a = omega arith in
+      let even : 2 * a % 2 ≡ 0 = omega arith in
+      rw (cell, even)
+  replaced_at Lower x =
+      let cell : (2 * a + 1) / 2 ≡ a = omega arith in
+      let odd : (2 * a + 1) % 2 ≡ 1 = omega arith in
+      rw (cell, odd)
+
   -- a word put half by half
-  pub halves_put : (w : ℕ) → half_put (half_put cs a Upper (upper_half w)) a Lower (lower_half w) ≡ whole_put cs a w
+  halves_put : (w : ℕ) → half_put (half_put cs a Upper (upper_half w)) a Lower (lower_half w) ≡ whole_put cs a w
   halves_put w =
       let upper = with_half (cell_at cs a) Upper (upper_half w) in
       let both : Cell → Cell = λ c. with_half c Lower (lower_half w) in
@@ -55,3 +72,16 @@ module _ (cs : List Cell) (a : ℕ) where
       (λ low. ap (λ c. set cs a (both c)) (get_or-set_same cs a upper (good_cell 0) low))
       (λ past. set_past cs a (both old) past ∙ sym (set_past cs a (good_cell w) past))
       (cases_lt a (length cs))
+
+-- a half or a word written to the memory is one put in the row
+pub row_half : (xs : List ℕ) (a : ℕ) (h : Half) (v : ℕ) → row_of (half_written xs a h v) ≡ half_put (row_of xs) a h v
+row_half xs a h v =
+    let x = half_number v in
+    row_replaced xs (index_of a h) x ∙ replaced_at (row_of xs) a h x
+    ∙ ap (set (row_of xs) a) (with_good (cell_at (row_of xs) a) h x v (half_number_good v))
+
+pub row_whole : (xs : List ℕ) (a w : ℕ) → row_of (whole_written xs a w) ≡ whole_put (row_of xs) a w
+row_whole xs a w =
+    row_half (half_written xs a Upper (upper_half w)) a Lower (lower_half w)
+    ∙ ap (λ cs. half_put cs a Lower (lower_half w)) (row_half xs a Upper (upper_half w))
+    ∙ halves_put (row_of xs) a w

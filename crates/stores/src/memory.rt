@@ -1,4 +1,5 @@
 // A memory: the numbers that lie under a store. Numbers that belong to no cell are never used.
+// Between u32 and usize it goes by `as`, which is proved to lose nothing: there is no From, and a TryFrom would add a failure that cannot be.
 ghost use Rattle.std.specs.Prelude.{◌≡◌, ℕ, Some, ◌+◌, ◌*◌, ◌/◌, ◌<◌, ◌≤◌, min, List, length, MatchResult, slice_get, slice_set};
 ghost use Rattle.store.specs.Cells.{Cell, most_cells};
 ghost use Rattle.store.specs.declared.fault.Fault.TheVariants.{NoCell};

@@ -31,6 +31,7 @@ impl Number for u16 {
     ghost replaces = { row_replaced };
 }
 
+// A cell and one of its halves stay two arguments here, since the store's put half takes them apart.
 impl ParityStore {
     // Where the number of a half stands in the memory.
     fn half_index(&self, address: CellAddress, half: Half) -> Result<usize, Fault>

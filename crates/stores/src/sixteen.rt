@@ -20,6 +20,7 @@ pub(crate) fn good_half(number: u16) -> Option<HalfWord>
 }
 
 // These bits with bit 15 set, which is one more one.
+#[tactic(auto, using(crate::specs::Odd::ones_marked))]
 fn with_bit_15(bits: u16) -> u16
     requires { bits < 2 ^ 15 }
     ensures value { result ≡ 2 ^ 15 + bits }

@@ -1,6 +1,6 @@
 use Rattle.std.proofs.Common.{◌≡◌, true, subst, rules, tests}
 use Rattle.std.specs.Str.Parse.{ParsesUnsigned}
-use Rattle.script.specs.Number.{numeral}
+use Rattle.script.specs.Number.{numeral, in_base}
 use Rattle.script.proofs.Digits.{numeral_text, told, read}
 use Rattle.script.proofs.number.in_base.Goals as goal
 
@@ -13,4 +13,6 @@ returns c =
     let text : c.unwrap-text.result.now ≡ c.args.digits.now = search rules in
     let parses : ParsesUnsigned 32 c.args.base c.args.digits.now c.from_str_radix.result
     = subst (λ l. ParsesUnsigned 32 c.args.base l c.from_str_radix.result) text c.from_str_radix.ensures.value in
-    read c.args.base c.args.digits.now _ _ c.requires.most is parses (told _ _ _ c.map_err.ensures.cases (λ e x p. search (rules, tests)))
+    let told_so : c.map_err.result ≡ in_base c.args.base c.args.digits.now
+    = read c.args.base c.args.digits.now _ _ c.requires.most is parses (told _ _ _ c.map_err.ensures.cases (λ e x p. search (rules, tests))) in
+    search rules

@@ -3,19 +3,14 @@ use Rattle.std.specs.Option.{option_map}
 use Rattle.script.specs.Play.{line_played, line_left}
 use Rattle.script.specs.Script.{grown}
 use Rattle.script.proofs.Following.{played_on, played_bad, played_all}
-use Rattle.script.proofs.Lines.{parts_of, is_line_feed}
-use Rattle.std.proofs.lemmas.Iterator.Consumers.{YieldsList-at, YieldsList-from_enumerate, YieldsList-turn, YieldsList-end}
-use Rattle.std.proofs.lemmas.Iterator.Splits.{YieldsList-from_slice_split}
+use Rattle.script.proofs.Lines.{parts_of, numbered_parts}
+use Rattle.std.proofs.lemmas.Iterator.Consumers.{YieldsList-turn, YieldsList-end}
 use Rattle.script.proofs.player.play_lines.Goals as goal
 
 pub loop-index-preserved : goal.loop-index-preserved
 loop-index-preserved c =
     let turn = YieldsList-turn
-    (YieldsList-at c.into_iter-index-iterator.ensures.into_iter_gives
-    (YieldsList-from_enumerate
-    (YieldsList-at c.enumerate-index-items.ensures.source
-    (YieldsList-from_slice_split _ is_line_feed c.args.script.now c.split.ensures.rest c.split.ensures.done c.split.ensures.closure (λ x r q k. search (rules, tests))))
-    c.enumerate-index-items.ensures.count))
+    (numbered_parts _ c.args.script.now c.into_iter-index-iterator.ensures.into_iter_gives c.enumerate-index-items.ensures.source c.enumerate-index-items.ensures.count c.split.ensures.rest c.split.ensures.done c.split.ensures.closure (λ x b q k. search (rules, tests)))
     c.loop-index.yielded _ c.loop-index.yielded_by _ _ _ c.in-Some.is c.next.ensures.steps in
     let said : Ok (option_map vec_items c.in_ok-text.text) ≡ line_played c.loop-index.session (c.in-Some.index + 1) c.in-Some.line.now = search rules in
     let grows : vec_items c.extend.new.transcript ≡ grown (vec_items c.loop-index.transcript) (option_map vec_items c.in_ok-text.text) = search rules in
@@ -25,21 +20,13 @@ loop-index-preserved c =
 pub returns-in_err-text : goal.returns-in_err-text
 returns-in_err-text c =
     let turn = YieldsList-turn
-    (YieldsList-at c.into_iter-index-iterator.ensures.into_iter_gives
-    (YieldsList-from_enumerate
-    (YieldsList-at c.enumerate-index-items.ensures.source
-    (YieldsList-from_slice_split _ is_line_feed c.args.script.now c.split.ensures.rest c.split.ensures.done c.split.ensures.closure (λ x r q k. search (rules, tests))))
-    c.enumerate-index-items.ensures.count))
+    (numbered_parts _ c.args.script.now c.into_iter-index-iterator.ensures.into_iter_gives c.enumerate-index-items.ensures.source c.enumerate-index-items.ensures.count c.split.ensures.rest c.split.ensures.done c.split.ensures.closure (λ x b q k. search (rules, tests)))
     c.loop-index.yielded _ c.loop-index.yielded_by _ _ _ c.in-Some.is c.next.ensures.steps in
     search (rules, played_bad)
 
 pub returns : goal.returns
 returns c =
     let end = YieldsList-end
-    (YieldsList-at c.into_iter-index-iterator.ensures.into_iter_gives
-    (YieldsList-from_enumerate
-    (YieldsList-at c.enumerate-index-items.ensures.source
-    (YieldsList-from_slice_split _ is_line_feed c.args.script.now c.split.ensures.rest c.split.ensures.done c.split.ensures.closure (λ x r q k. search (rules, tests))))
-    c.enumerate-index-items.ensures.count))
+    (numbered_parts _ c.args.script.now c.into_iter-index-iterator.ensures.into_iter_gives c.enumerate-index-items.ensures.source c.enumerate-index-items.ensures.count c.split.ensures.rest c.split.ensures.done c.split.ensures.closure (λ x b q k. search (rules, tests)))
     c.loop-index.yielded _ c.loop-index.yielded_by _ _ c.in-None.is c.next.ensures.steps in
     search (rules, played_all)

@@ -6,6 +6,14 @@ pub returns-in-memory : goal.returns-in-memory
 returns-in-memory c =
     let is = text_from_reads c.args.word.now (codes "memory") (omega arith) (search rules) in rw is
 
+pub returns-in-count : goal.returns-in-count
+returns-in-count c =
+    let is = text_from_reads c.args.word.now (codes "count") (omega arith) (search rules) in rw is
+
+pub returns-in-fetch : goal.returns-in-fetch
+returns-in-fetch c =
+    let is = text_from_reads c.args.word.now (codes "fetch") (omega arith) (search rules) in rw is
+
 pub returns-in-112 : goal.returns-in-112
 returns-in-112 c =
     let is = text_from_reads c.args.word.now (codes "put-half") (omega arith) (search rules) in rw is
