@@ -7,7 +7,7 @@ use crate::bank::Bank;
 use store::{CellAddress, Fault, Half, Store};
 use words::Word;
 
-// Names of its own say more here than the two sides of a general either.
+// Not a general `Either`: the names of the variants say what the store is over.
 #[derive(Drop)]
 pub(crate) enum AnyStore {
     Single(Bank),

@@ -13,6 +13,7 @@ use words::Word;
 #[derive(Clone, Copy, Debug, PartialEq, Eq)]
 pub struct OutOfRange;
 
+// Not a general `Either` either: the names of the variants say of which kind the memory is.
 #[derive(Drop)]
 pub(crate) enum Bank {
     Word(WordStore),
@@ -24,6 +25,7 @@ impl Bank {
     pub(crate) fn new(heap: Global, part: Part) -> Result<Bank, AllocError>
         ensures { IfOk result (λ b. (kind_of b ≡ part.kind) × (size_of b ≡ part.size) × (bank_row b ≡ new_row part.kind part.size)) }
     {
+        // By `as`: a u32 has no From into a usize.
         let size = part.size as usize;
         match part.kind {
             Kind::Word => Ok(Bank::Word(WordStore::new(vec![in heap; 0; size]?))),

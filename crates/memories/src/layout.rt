@@ -16,6 +16,7 @@ pub struct Part {
     pub size: u32,
 }
 
+// A description, to copy and to compare; the store that is made by it is neither, and a type over both would be no plainer.
 #[derive(Clone, Copy, Debug, PartialEq, Eq)]
 pub enum Layout {
     Single(Part),

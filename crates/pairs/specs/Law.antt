@@ -71,3 +71,11 @@ used rule rs a p h there =
 pub lies : (rule : Rule) (rs : Rows) (a : ℕ) (p : Place) → a < length (pair_row rule rs) → p ≡ place_of rule (length rs.first) a → Lies rule rs a p
 unfolding pair_row
 lies rule rs a p h e = rw e (used rule rs a _ h (lies_in_whole rule rs a (within_few (whole_row rule rs) a h).1))
+
+-- by the count: an address below it is found, and none from it on
+module _ (rule : Rule) (rs : Rows) where
+  pub found : (a : ℕ) (p : Place) → (a < pair_count rule (length rs.first) (length rs.second)) × (p ≡ place_of rule (length rs.first) a) → (p ≡ place_of rule (length rs.first) a) × Lies rule rs a p
+  found a p h = (h.1, lies rule rs a p (rw (length_pair rule rs) h.0) h.1)
+
+  pub missed : (a : ℕ) → pair_count rule (length rs.first) (length rs.second) ≤ a → length (pair_row rule rs) ≤ a
+  missed a h = rw (length_pair rule rs) h

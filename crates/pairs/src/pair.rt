@@ -1,6 +1,6 @@
 // A pair of stores.
-ghost use Rattle.std.specs.Prelude.{◌≡◌, ◌≤◌, length, MatchResult};
-ghost use Rattle.store.specs.declared.fault.Fault.TheVariants.{NoCell};
+ghost use Rattle.std.specs.Prelude.{◌≡◌, length};
+ghost use Rattle.store.specs.Functions.{Finds};
 ghost use Rattle.pairs.specs.Pair.{Lies, rows, row, count_of, place_in, PutsWhole, PutsHalf};
 ghost use Rattle.pairs.specs.Law.{pair_bounded};
 ghost use Rattle.pairs.specs.Ranged.{pair_ranged};
@@ -18,9 +18,9 @@ pub struct Pair<F, S> {
 }
 
 impl<F: Store, S: Store> Pair<F, S> {
-    // The place of a cell, by the address rule: the pair's cell is the one there.
+    // Where a cell lies: the pair's cell is the cell at this place.
     fn place(&self, address: CellAddress) -> Result<Place, Fault>
-        ensures { MatchResult result (λ p. (p ≡ place_in F.cells self.now address.0) × Lies self.now.rule (rows F.cells S.cells self.now) address.0 p) (λ e. (length (row F.cells S.cells self.now) ≤ address.0) × (e ≡ NoCell)) }
+        ensures { Finds (row F.cells S.cells self.now) address.0 (λ p. (p ≡ place_in F.cells self.now address.0) × Lies self.now.rule (rows F.cells S.cells self.now) address.0 p) result }
     {
         if address.0 >= self.count() {
             return Err(Fault::NoCell);

@@ -9,7 +9,7 @@ pub enum Side {
 }
 
 // In which of the two stores, and at which address there.
-#[derive(Clone, Copy)]
+#[derive(Clone, Copy, Debug, PartialEq, Eq)]
 pub(crate) struct Place {
     pub(crate) side: Side,
     pub(crate) address: CellAddress,

@@ -9,21 +9,8 @@ use Rattle.script.specs.declared.reason.Reason.{Reason}
 use Rattle.script.specs.declared.reason.Reason.TheVariants.{UnknownWord, WordCount, OutOfRange}
 use Rattle.script.specs.declared.statement.Statement.{Statement}
 use Rattle.script.specs.declared.statement.Statement.TheVariants as st
-use Rattle.script.specs.declared.verb.Verb.{Verb}
-use Rattle.script.specs.declared.verb.Verb.TheVariants as verb
 use Rattle.script.specs.Number.{number_of}
 use Rattle.script.specs.Then.{◌>>=◌}
-
--- the name that a statement begins with
-abbrev pub verb_of : List ℕ → Result Verb Reason
-verb_of w =
-    if bytes_eq w (codes "memory") then Ok verb.Memory
-    else (if bytes_eq w (codes "raw") then Ok verb.Raw
-    else (if bytes_eq w (codes "count") then Ok verb.Count
-    else (if bytes_eq w (codes "fetch") then Ok verb.Fetch
-    else (if bytes_eq w (codes "put") then Ok verb.Put
-    else (if bytes_eq w (codes "put-half") then Ok verb.PutHalf
-    else Err UnknownWord)))))
 
 abbrev pub half_of : List ℕ → Result Half Reason
 half_of w =
@@ -83,15 +70,18 @@ put_half_statement args = takes 3 args (do
   v ← number_of (nth_word args 2)
   Ok (st.Operation (op.PutHalf (address a) h v)))
 
-abbrev pub with_verb : Verb → List (List ℕ) → Result Statement Reason
-with_verb verb.Memory args = memory_statement args
-with_verb verb.Raw args = raw_statement args
-with_verb verb.Count args = count_statement args
-with_verb verb.Fetch args = fetch_statement args
-with_verb verb.Put args = put_statement args
-with_verb verb.PutHalf args = put_half_statement args
+-- the statement of a name and the words after it
+abbrev pub named_statement : List ℕ → List (List ℕ) → Result Statement Reason
+named_statement name args =
+    if bytes_eq name (codes "memory") then memory_statement args
+    else (if bytes_eq name (codes "raw") then raw_statement args
+    else (if bytes_eq name (codes "count") then count_statement args
+    else (if bytes_eq name (codes "fetch") then fetch_statement args
+    else (if bytes_eq name (codes "put") then put_statement args
+    else (if bytes_eq name (codes "put-half") then put_half_statement args
+    else Err UnknownWord)))))
 
 -- the statement that the words of a line make, the name first
 unfoldable pub statement_of : List (List ℕ) → Result Statement Reason
 statement_of [] = Err WordCount
-statement_of (name ∷ args) = verb_of name >>= λ v. with_verb v args
+statement_of (name ∷ args) = named_statement name args

@@ -11,7 +11,6 @@ mod reason;
 mod session;
 mod statement;
 mod transcript;
-mod verb;
 
 pub use answer::Answer;
 pub use failure::Failure;

@@ -9,7 +9,7 @@ use crate::problem::Problem;
 use crate::session::Session;
 use std::alloc::{AllocError, Global};
 
-// What a script comes to: the transcript up to its end or its first bad line, and what is wrong with that. No Result, since a bad line has both.
+// What a script comes to: the transcript up to its end or its first bad line, and what is wrong with that. Not a Result: a script with a bad line has a transcript too.
 #[derive(Drop)]
 pub struct Played {
     pub transcript: Vec<u8>,
@@ -32,7 +32,7 @@ fn play_lines(heap: Global, transcript: &mut Vec<u8>, script: &[u8]) -> Result<(
     ensures { Tells transcript.new.items result (lines_played transcript.old.items None 1 (slice_split (λ byte. byte == 10) script.now)) }
 {
     let mut session = Session::new();
-    // Not a zip with `1..`: no lemma says what that yields, and the loop's goals stay open.
+    // Not a zip with `1..`: no lemma says what an open range yields, and the loop's goals stay open. A usize has no From into a u64.
     for (index, line) in script.split(|byte| *byte == b'\n').enumerate() {
         let text = session.play_line(heap, index as u64 + 1, line)?;
         extend(transcript, text)?;

@@ -83,7 +83,7 @@ impl Session {
         let statement = read_statement(words)?;
         match self.perform(heap, statement) {
             Ok(answer) => Ok(write_line(heap, words, answer)?),
-            // Not `?`, for which the checker's plan does not know where the type of words in the answer stands.
+            // Not `?`: the checker's plan for it does not find the module of `Word`, which it calls a fault of its own.
             Err(failure) => Err(failure),
         }
     }
@@ -98,6 +98,7 @@ impl Session {
         let Statement::Memory(size) = statement else {
             return Err(Reason::NoMemory.into());
         };
+        // By `as`: a u32 has no From into a usize.
         let memory = vec![in heap; 0u32; size as usize]?;
         self.store = Some(WordStore::new(memory));
         Ok(Answer::Done)

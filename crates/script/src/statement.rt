@@ -3,11 +3,10 @@
 
 ghost use Rattle.std.specs.Prelude.{◌≡◌};
 ghost use Rattle.script.specs.Line.{texts};
-ghost use Rattle.script.specs.Statement.{half_of, memory_statement, raw_statement, count_statement, fetch_statement, put_statement, put_half_statement, with_verb, statement_of};
+ghost use Rattle.script.specs.Statement.{half_of, memory_statement, raw_statement, count_statement, fetch_statement, put_statement, put_half_statement, named_statement, statement_of};
 
 use crate::number::read_number;
 use crate::reason::Reason;
-use crate::verb::Verb;
 use store::{CellAddress, Half, Operation};
 
 const MOST_NUMBERS: u32 = 262_144;
@@ -20,7 +19,7 @@ pub enum Statement {
     Operation(Operation),
 }
 
-// A function and no TryFrom: neither a half nor a slice is a type of this crate.
+// A function: a TryFrom would have to stand in `store`, and would need an error type of its own there.
 fn read_half(word: &[u8]) -> Result<Half, Reason>
     ensures { result ≡ half_of word.now }
 {
@@ -113,17 +112,18 @@ fn put_half(args: &[&[u8]]) -> Result<Statement, Reason>
     }))
 }
 
-// A match and no table of functions, which would say the same in another place.
-fn read_arguments(verb: Verb, args: &[&[u8]]) -> Result<Statement, Reason>
-    ensures { result ≡ with_verb verb (texts args.now) }
+// The statement of a name and the words after it.
+fn read_named(name: &[u8], args: &[&[u8]]) -> Result<Statement, Reason>
+    ensures { result ≡ named_statement name.now (texts args.now) }
 {
-    match verb {
-        Verb::Memory => memory(args),
-        Verb::Raw => raw(args),
-        Verb::Count => count(args),
-        Verb::Fetch => fetch(args),
-        Verb::Put => put(args),
-        Verb::PutHalf => put_half(args),
+    match name {
+        b"memory" => memory(args),
+        b"raw" => raw(args),
+        b"count" => count(args),
+        b"fetch" => fetch(args),
+        b"put" => put(args),
+        b"put-half" => put_half(args),
+        _ => Err(Reason::UnknownWord),
     }
 }
 
@@ -135,5 +135,5 @@ pub fn read_statement(words: &[&[u8]]) -> Result<Statement, Reason>
     let [name, args @ ..] = words else {
         return Err(Reason::WordCount);
     };
-    read_arguments(Verb::try_from(*name)?, args)
+    read_named(name, args)
 }

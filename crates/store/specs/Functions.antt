@@ -1,5 +1,5 @@
 -- What the functions of a store answer, and the row after a put, over the row of cells.
-use Rattle.std.specs.Prelude.{ℕ, if◌then◌else◌, List, length, Ok, Err, Result, nat_lt, slice_set}
+use Rattle.std.specs.Prelude.{◌≡◌, ℕ, ◌<◌, ◌≤◌, if◌then◌else◌, List, length, MatchResult, Ok, Err, Result, nat_lt, slice_set}
 use Rattle.words.specs.Words.{joined}
 use Rattle.store.specs.declared.half.Half.{Half}
 use Rattle.store.specs.declared.half.Half.TheVariants.{Upper, Lower}
@@ -35,3 +35,7 @@ put_half_answer cs a h = within cs a (if_good (cell_at cs a) (other_half h) (Ok 
 
 abbrev pub half_put : List Cell → ℕ → Half → ℕ → List Cell
 half_put cs a h v = slice_set cs a (with_half (cell_at cs a) h v)
+
+-- what is found of a cell is as P says; where there is no such cell, that is the fault
+abbrev pub Finds : {X : Type 0} → List Cell → ℕ → (X → Type 0) → Result X Fault → Type 0
+Finds cs a P r = MatchResult r (λ x. (a < length cs) × P x) (λ e. (length cs ≤ a) × (e ≡ NoCell))

@@ -1,7 +1,7 @@
 // A store: a row of at most 131,072 cells with four functions. Code that is generic over a store knows it by this interface alone.
 #![tactic(auto)]
 
-ghost use Rattle.std.specs.Prelude.{◌≡◌, ℕ, ◌<◌, ◌≤◌, List, length, is_ok, OnOk, OnErr, if◌then◌else◌};
+ghost use Rattle.std.specs.Prelude.{◌≡◌, ℕ, ⊤, ◌<◌, ◌≤◌, List, length, is_ok, OnOk, OnErr, if◌then◌else◌};
 ghost use Rattle.store.specs.Cells.{Cell, CellFits, cell_at, most_cells};
 ghost use Rattle.store.specs.Functions.{fetched, put_whole_answer, put_half_answer, whole_put, half_put};
 
@@ -32,9 +32,9 @@ pub trait Store {
     ghost cells: { Self → List Cell };
 
     // what a put that is taken does to the store itself, whatever lies under its row
-    ghost puts_whole: { Self → ℕ → ℕ → Self → Type 0 };
+    ghost puts_whole: { Self → ℕ → ℕ → Self → Type 0 } = { λ _ _ _ _. ⊤ };
 
-    ghost puts_half: { Self → ℕ → Half → ℕ → Self → Type 0 };
+    ghost puts_half: { Self → ℕ → Half → ℕ → Self → Type 0 } = { λ _ _ _ _ _. ⊤ };
 
     // The number of cells.
     fn count(&self) -> u32

@@ -11,6 +11,7 @@ fn play_into<S: Store>(answers: &mut Vec<Reply>, store: &mut S, operations: &[Op
     ensures answers { answers.new.items ≡ answers.old.items ++ replies (S.cells store.old) operations.now }
     ensures after { S.cells store.new ≡ left_by (S.cells store.old) operations.now }
 {
+    // A loop, and no `collect`: room for all the answers was made before the first function is done.
     for operation in operations {
         answers.push_reserved(perform(store, *operation));
     }

@@ -21,6 +21,11 @@ length_row xs = length_cut most_cells (paired xs) ∙ ap (λ n. min n most_cells
 pub row_bounded : (xs : List ℕ) → length (row_of xs) ≤ most_cells
 row_bounded xs = omega (arith, length_row xs)
 
+-- the numbers of a cell stand in the memory
+pub index_within : (xs : List ℕ) (a : ℕ) (h : Half) → a < cell_count xs → index_of a h < length xs
+index_within xs a Upper low = omega arith
+index_within xs a Lower low = omega arith
+
 pub row_at : (xs : List ℕ) (a : ℕ) (h : Half) → a < length (row_of xs) → part (cell_at (row_of xs) a) h ≡ half_of (slice_index xs (index_of a h))
 unfolding row_of
 row_at xs a h within =
@@ -43,6 +48,10 @@ unfolding row_of
 row_replaced xs i y =
     ap (take most_cells) (paired_set xs i y)
     ∙ cut_changed most_cells (paired xs) (λ c. with_number c (half_at i) y) (i / 2) (good_cell 0)
+
+-- past the memory's end there is none
+pub row_past : (xs : List ℕ) (i y : ℕ) → length xs ≤ i → row_of xs ≡ number_replaced (row_of xs) i y
+row_past xs i y past = ap row_of (sym (set_past xs i y past)) ∙ row_replaced xs i y
 
 -- a number that holds a good half, under one half of a cell
 with_good : (c : Cell) (h : Half) (x v : ℕ) → half_of x ≡ good_half v → with_number c h x ≡ with_half c h v

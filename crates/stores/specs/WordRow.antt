@@ -4,13 +4,17 @@ use Rattle.std.proofs.Common.{sym, ap, ◌∙◌, subst, arith}
 use Rattle.std.proofs.lemmas.List.{map-set}
 use Rattle.std.proofs.lemmas.Option.{get_or_from_slice_get, slice_get-get_or}
 use Rattle.store.specs.Cells.{cell_at, CellFits, good_cell, most_cells}
-use Rattle.stores.specs.Word.{cell_of, row_of, number_replaced}
+use Rattle.stores.specs.Word.{cell_of, cell_count, row_of, number_replaced}
 use Rattle.stores.specs.Cut.{cut_changed}
 use Rattle.stores.specs.Mapped.{length_mapped, mapped_at}
 
-pub length_row : (xs : List ℕ) → length (row_of xs) ≡ min (length xs / 1) most_cells
+pub length_row : (xs : List ℕ) → length (row_of xs) ≡ cell_count xs
 unfolding row_of
-length_row xs = length_mapped cell_of most_cells xs ∙ omega arith
+length_row xs = length_mapped cell_of most_cells xs
+
+-- the same, told of one number to a cell
+pub length_row_by_one : (xs : List ℕ) → length (row_of xs) ≡ min (length xs / 1) most_cells
+length_row_by_one xs = omega (arith, length_row xs)
 
 pub row_bounded : (xs : List ℕ) → length (row_of xs) ≤ most_cells
 row_bounded xs = omega (arith, length_row xs)

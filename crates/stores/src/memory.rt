@@ -1,8 +1,8 @@
 // A memory: the numbers that lie under a store. Numbers that belong to no cell are never used.
 // Between u32 and usize it goes by `as`, which is proved to lose nothing: there is no From, and a TryFrom would add a failure that cannot be.
-ghost use Rattle.std.specs.Prelude.{◌≡◌, ℕ, Some, ◌+◌, ◌*◌, ◌/◌, ◌<◌, ◌≤◌, min, List, length, MatchResult, slice_get, slice_set};
+ghost use Rattle.std.specs.Prelude.{◌≡◌, ℕ, Some, ◌+◌, ◌*◌, ◌/◌, ◌<◌, ◌≤◌, min, List, length, slice_get, slice_set};
 ghost use Rattle.store.specs.Cells.{Cell, most_cells};
-ghost use Rattle.store.specs.declared.fault.Fault.TheVariants.{NoCell};
+ghost use Rattle.store.specs.Functions.{Finds};
 ghost use Rattle.stores.specs.Memory.{numbers};
 
 use std::mem;
@@ -27,20 +27,21 @@ pub trait Number: Copy + Drop {
     ghost replaces: { (xs : List Self) (i : ℕ) (x : Self) → cells (slice_set xs i x) ≡ replaced (cells xs) i x };
 }
 
+// A store over numbers. It has no Model: as a list of numbers it could not promise that the very vector is handed back.
 #[derive(Drop)]
 pub struct Memory<N> {
     numbers: Vec<N>,
 }
 
 impl<N: Number> Memory<N> {
-    // The store over a memory, whatever it holds.
+    // The store over these numbers, whatever they are.
     pub fn new(numbers: Vec<N>) -> Self
         ensures { result.numbers ≡ numbers }
     {
         Memory { numbers }
     }
 
-    // The memory again.
+    // The numbers again.
     pub fn into_memory(self) -> Vec<N>
         ensures { result ≡ self.numbers }
     {
@@ -76,21 +77,20 @@ impl<N: Number> Memory<N> {
     }
 
     // The number of cells.
-    pub(crate) fn cell_count(&self) -> usize
+    pub(crate) fn cell_count(&self) -> u32
         ensures row { result ≡ length (N.cells (numbers self.now)) }
         ensures memory { result ≡ min (length (numbers self.now) / N.PER_CELL) most_cells }
     {
-        (self.numbers.len() / N::PER_CELL).min(MOST_CELLS as usize)
+        (self.numbers.len() / N::PER_CELL).min(MOST_CELLS as usize) as u32
     }
 
     // Where the numbers of a cell begin, if there is such a cell.
     pub(crate) fn index_of(&self, address: CellAddress) -> Result<usize, Fault>
-        ensures { MatchResult result (λ i. (i ≡ address.0 * N.PER_CELL) × (i + N.PER_CELL ≤ length (numbers self.now)) × (address.0 < length (N.cells (numbers self.now)))) (λ e. (e ≡ NoCell) × (length (N.cells (numbers self.now)) ≤ address.0)) }
+        ensures { Finds (N.cells (numbers self.now)) address.0 (λ i. (i ≡ address.0 * N.PER_CELL) × (i + N.PER_CELL ≤ length (numbers self.now))) result }
     {
-        let cell = address.0 as usize;
-        if cell >= self.cell_count() {
+        if address.0 >= self.cell_count() {
             return Err(Fault::NoCell);
         }
-        Ok(cell * N::PER_CELL)
+        Ok(address.0 as usize * N::PER_CELL)
     }
 }

@@ -1,9 +1,8 @@
 // The parity store: a cell is two 16-bit numbers, the upper half first. An odd last number and numbers past 131,072 cells belong to no cell.
-ghost use Rattle.std.specs.Prelude.{◌≡◌, ◌<◌, ◌≤◌, length, is_ok, OnErr, if◌then◌else◌, MatchResult};
+ghost use Rattle.std.specs.Prelude.{◌≡◌, ◌<◌, ◌≤◌, length, is_ok, OnErr, if◌then◌else◌};
 ghost use Rattle.std.proofs.Common.{arith};
 ghost use Rattle.store.specs.Cells.{cell_at, part};
-ghost use Rattle.store.specs.declared.fault.Fault.TheVariants.{NoCell};
-ghost use Rattle.store.specs.Functions.{put_whole_answer, half_put};
+ghost use Rattle.store.specs.Functions.{put_whole_answer, half_put, Finds};
 ghost use Rattle.stores.specs.Memory.{numbers};
 ghost use Rattle.stores.specs.Parity.{half_of, row, row_of, cell_count, half_written, whole_written, index_of, number_replaced};
 ghost use Rattle.stores.specs.ParityRow.{length_row, row_bounded, row_fits, row_replaced};
@@ -35,7 +34,7 @@ impl Number for u16 {
 impl ParityStore {
     // Where the number of a half stands in the memory.
     fn half_index(&self, address: CellAddress, half: Half) -> Result<usize, Fault>
-        ensures { MatchResult result (λ i. (i ≡ index_of address.0 half) × (i < length (numbers self.now)) × (address.0 < length (row self.now))) (λ e. (e ≡ NoCell) × (length (row self.now) ≤ address.0)) }
+        ensures { Finds (row self.now) address.0 (λ i. (i ≡ index_of address.0 half) × (i < length (numbers self.now))) result }
     {
         let first = self.index_of(address)?;
         match half {
@@ -46,7 +45,7 @@ impl ParityStore {
 
     // The number of a half.
     fn half_number(&self, address: CellAddress, half: Half) -> Result<u16, Fault>
-        ensures { MatchResult result (λ x. (address.0 < length (row self.now)) × (half_of x ≡ part (cell_at (row self.now) address.0) half)) (λ e. (length (row self.now) ≤ address.0) × (e ≡ NoCell)) }
+        ensures { Finds (row self.now) address.0 (λ x. half_of x ≡ part (cell_at (row self.now) address.0) half) result }
     {
         Ok(self.number(self.half_index(address, half)?))
     }
@@ -79,7 +78,7 @@ impl Store for ParityStore {
         ensures row { result ≡ length (row self.now) }
         ensures memory { result ≡ cell_count (numbers self.now) }
     {
-        self.cell_count() as u32
+        self.cell_count()
     }
 
     fn fetch(&self, address: CellAddress) -> Result<Word, Fault> {

@@ -1,13 +1,12 @@
 // The word store: a cell is one 32-bit number. Numbers past the first 131,072 are never used.
-ghost use Rattle.std.specs.Prelude.{◌≡◌, length, ◌<◌, ◌≤◌, is_ok, OnErr, if◌then◌else◌, MatchResult, slice_index, slice_set};
+ghost use Rattle.std.specs.Prelude.{◌≡◌, length, is_ok, OnErr, if◌then◌else◌, slice_index, slice_set};
 ghost use Rattle.std.proofs.Common.{arith};
 ghost use Rattle.words.specs.Words.{word_bits};
 ghost use Rattle.store.specs.Cells.{cell_at};
-ghost use Rattle.store.specs.declared.fault.Fault.TheVariants.{NoCell};
-ghost use Rattle.store.specs.Functions.{put_whole_answer};
+ghost use Rattle.store.specs.Functions.{put_whole_answer, Finds};
 ghost use Rattle.stores.specs.Memory.{numbers};
 ghost use Rattle.stores.specs.Word.{cell_of, cell_count, row, row_of, half_written, number_replaced};
-ghost use Rattle.stores.specs.WordRow.{length_row, row_bounded, row_fits, row_replaced};
+ghost use Rattle.stores.specs.WordRow.{length_row_by_one, row_bounded, row_fits, row_replaced};
 
 use super::memory::{Memory, Number};
 use super::{halves, number};
@@ -27,7 +26,7 @@ impl Number for u32 {
 
     ghost some = { Prim.omega arith };
 
-    ghost counts = { length_row };
+    ghost counts = { length_row_by_one };
 
     ghost replaces = { row_replaced };
 }
@@ -35,7 +34,7 @@ impl Number for u32 {
 impl WordStore {
     // The number of a cell.
     fn cell_number(&self, address: CellAddress) -> Result<u32, Fault>
-        ensures { MatchResult result (λ x. (address.0 < length (row self.now)) × (cell_of x ≡ cell_at (row self.now) address.0) × (x ≡ slice_index (numbers self.now) address.0)) (λ e. (length (row self.now) ≤ address.0) × (e ≡ NoCell)) }
+        ensures { Finds (row self.now) address.0 (λ x. (cell_of x ≡ cell_at (row self.now) address.0) × (x ≡ slice_index (numbers self.now) address.0)) result }
     {
         Ok(self.number(self.index_of(address)?))
     }
@@ -68,7 +67,7 @@ impl Store for WordStore {
         ensures row { result ≡ length (row self.now) }
         ensures memory { result ≡ cell_count (numbers self.now) }
     {
-        self.cell_count() as u32
+        self.cell_count()
     }
 
     fn fetch(&self, address: CellAddress) -> Result<Word, Fault> {

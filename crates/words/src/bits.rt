@@ -1,4 +1,4 @@
-// Numbers of so many bits: below 2 to that power.
+// A number of N bits is below 2^N.
 ghost use Rattle.std.specs.Prelude.{◌≡◌, ℕ, ◌%◌, ◌^◌, ◌<◌};
 
 use std::marker::Model;

@@ -6,4 +6,5 @@ use Rattle.pairs.proofs.pair.Pair.place.Goals as goal
 pub returns : goal.returns
 returns g c =
     let placed = rw c.count-2.ensures at c.place.ensures in
-    (placed, lies _ (rows g.F.Store.cells g.S.Store.cells c.args.self.now) _ _ (omega arith) placed)
+    let law = lies _ (rows g.F.Store.cells g.S.Store.cells c.args.self.now) _ _ (omega arith) placed in
+    (law.here, (placed, law))

@@ -4,5 +4,5 @@ use Rattle.stores.proofs.word.WordStore.cell_number.Goals as goal
 pub returns : goal.returns
 returns c =
     let found = c.in_ok-index_of.ensures in
-    let read = row_read _ _ _ _ found.2 found.0 c.number.ensures in
-    (found.2, read.0, read.1)
+    let read = row_read _ _ _ _ found.0 found.1.0 c.number.ensures in
+    (found.0, read)
