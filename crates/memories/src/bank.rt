@@ -9,7 +9,7 @@ use store::{CellAddress, Fault, Half, Store};
 use stores::{ParityStore, WordStore};
 use words::Word;
 
-// There is no such number in the memory, or the value is too wide for it.
+// There is no such number in the memory, or the value is too wide for it. It has no Display: nobody prints it.
 #[derive(Clone, Copy, Debug, PartialEq, Eq)]
 pub struct OutOfRange;
 

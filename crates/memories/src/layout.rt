@@ -1,6 +1,7 @@
 // What memory is to be made: one, or two with the rule that joins them.
 use pairs::Rule;
 
+// Beside `Bank` for the same reason as `Layout` beside the store.
 #[derive(Clone, Copy, Debug, PartialEq, Eq)]
 pub enum Kind {
     // 32-bit numbers, one to a cell

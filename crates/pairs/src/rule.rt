@@ -10,7 +10,7 @@ use store::{CellAddress, MOST_CELLS};
 pub enum Rule {
     // the second store's cells follow the first's
     Continuous,
-    // even addresses go to the first store and odd ones to the second
+    // the first store has the even addresses, the second the odd ones
     Interleaved,
 }
 

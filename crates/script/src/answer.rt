@@ -5,6 +5,7 @@ ghost use Rattle.script.specs.Transcript.{answer_text};
 use std::fmt;
 use store::Reply;
 
+// Not an Option of a reply: it is written, and `ok` is an answer too.
 #[derive(Clone, Copy, Debug, PartialEq, Eq)]
 pub enum Answer {
     Done,

@@ -7,6 +7,7 @@ use crate::problem::Problem;
 use crate::reason::Reason;
 use std::alloc::AllocError;
 
+// It has no Display: who gets one takes it apart.
 #[derive(Clone, Copy, Debug, PartialEq, Eq)]
 pub enum Failure<E> {
     OutOfMemory(AllocError),

@@ -20,6 +20,7 @@ use std::marker::Model;
 use store::perform;
 use stores::WordStore;
 
+// The heap comes with each call: as a field it would be asked of whoever calls `new`.
 #[derive(Drop)]
 pub struct Session {
     store: Option<WordStore>,

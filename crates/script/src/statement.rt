@@ -34,6 +34,7 @@ fn read_half(word: &[u8]) -> Result<Half, Reason>
 fn memory(args: &[&[u8]]) -> Result<Statement, Reason>
     ensures { result ≡ memory_statement (texts args.now) }
 {
+    // Not one match with `b"word"` in it: tried, and its goals stay open.
     let [kind, ..] = args else {
         return Err(Reason::WordCount);
     };

@@ -1,4 +1,4 @@
--- A cell is two halves, each a number below 32,768 with a mark, good or spoiled.
+-- A cell has an upper and a lower half; a half is a number of 15 bits and whether it is good.
 use Rattle.std.specs.Prelude.{ℕ, ◌^◌, ◌<◌, Bool, true, Option, Some, None, if◌then◌else◌, List, slice_index_or}
 use Rattle.words.specs.Words.{half_bits, upper_half, lower_half}
 use Rattle.store.specs.declared.half.Half.{Half}

@@ -1,6 +1,6 @@
 // Lists of a store's functions: on one store, and the same list on two.
-ghost use Rattle.std.specs.Prelude.{◌≡◌, ◌+◌, ◌<◌, ◌≤◌, [], ◌∷◌, ◌++◌, length, is_ok, IfOk, if◌then◌else◌, vec_len, vec_capacity};
-ghost use Rattle.store.specs.Operations.{replied, left, replies, left_by, Alike};
+ghost use Rattle.std.specs.Prelude.{◌≡◌, ◌+◌, ◌≤◌, ◌++◌, length, is_ok, IfOk, if◌then◌else◌, vec_len, vec_capacity};
+ghost use Rattle.store.specs.Operations.{replies, left_by, Alike};
 
 use super::{Operation, Reply, Store, perform};
 use std::alloc::{AllocError, Global};

@@ -7,7 +7,7 @@ use Rattle.store.specs.Cells.{HalfCell, Cell, cell_at, most_cells}
 use Rattle.stores.specs.declared.memory.Memory.{Memory}
 use Rattle.stores.specs.Memory.{numbers}
 
--- bits 14 to 0 are the half; it is good exactly if all sixteen bits hold an odd number of ones
+-- the half in bits 14 to 0; it is good where an odd number of the sixteen bits are 1
 abbrev pub half_of : ℕ → HalfCell
 half_of x = record { value = half_bits x; good = (count_ones x % 2 == 1) }
 

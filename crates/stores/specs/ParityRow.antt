@@ -1,7 +1,7 @@
 -- The laws of the parity store's row: its length, its halves, and what a changed number changes.
-use Rattle.std.specs.Prelude.{◌≡◌, ℕ, ◌+◌, ◌*◌, ◌/◌, ◌%◌, ◌^◌, ◌<◌, ◌≤◌, min, List, length, take, set, Some, slice_get, slice_index, slice_set}
+use Rattle.std.specs.Prelude.{◌≡◌, ℕ, ◌+◌, ◌*◌, ◌/◌, ◌%◌, ◌^◌, ◌<◌, ◌≤◌, min, List, length, take, set, Some, slice_get, slice_index, slice_index_or, slice_set, refl}
 use Rattle.std.proofs.Common.{⊎_elim, sym, ap, subst, ◌∙◌, arith}
-use Rattle.std.proofs.lemmas.Option.{get_or_from_slice_get}
+use Rattle.std.proofs.lemmas.Option.{get_or_from_slice_get, slice_get_read}
 use Rattle.std.proofs.lemmas.List.{set_past, set-set, get_or-set_same}
 use Rattle.std.proofs.lemmas.Bool.{cases_lt}
 use Rattle.words.specs.Words.{upper_half, lower_half}
@@ -32,10 +32,16 @@ row_at xs a h within =
     ap (λ c. part c h) (cut_at most_cells (paired xs) a (good_cell 0) within)
     ∙ paired_at xs a h (cut_within most_cells (paired xs) a within)
 
--- what a read of the memory at a half's number tells
-pub row_read : (xs : List ℕ) (a : ℕ) (h : Half) (i x : ℕ) → a < length (row_of xs) → i ≡ index_of a h → slice_get xs i ≡ Some x → half_of x ≡ part (cell_at (row_of xs) a) h
-row_read xs a h i x within place read =
+-- what a number that was taken from a half's place tells
+pub row_taken : (xs : List ℕ) (a : ℕ) (h : Half) (i x : ℕ) → a < length (row_of xs) → i ≡ index_of a h → slice_get xs i ≡ Some x → half_of x ≡ part (cell_at (row_of xs) a) h
+row_taken xs a h i x within place read =
     ap half_of (sym (get_or_from_slice_get xs i x 0 read) ∙ ap (slice_index xs) place) ∙ sym (row_at xs a h within)
+
+-- the same of a read, where the count tells that there is such a cell
+pub row_read : (xs : List ℕ) (a : ℕ) (h : Half) (x : ℕ) → a < cell_count xs → x ≡ slice_index_or xs (index_of a h) x → (a < length (row_of xs)) × (half_of x ≡ part (cell_at (row_of xs) a) h)
+row_read xs a h x low read =
+    let within : a < length (row_of xs) = omega (arith, length_row xs) in
+    (within, row_taken xs a h (index_of a h) x within refl (slice_get_read xs (length xs) (index_of a h) x refl (index_within xs a h low) read))
 
 pub row_fits : (xs : List ℕ) (a : ℕ) → a < length (row_of xs) → CellFits (cell_at (row_of xs) a)
 row_fits xs a within =

@@ -11,7 +11,7 @@ use Rattle.stores.specs.Memory.{numbers}
 abbrev pub is_clear : ℕ → ℕ → Bool
 is_clear k x = x / 2 ^ k % 2 == 0
 
--- bits 29 to 0 are the word; bit 31 marks the upper half spoiled, bit 30 the lower
+-- the word in bits 29 to 0, and above it two marks of spoiled halves: bit 31 of the upper one, bit 30 of the lower
 abbrev pub cell_of : ℕ → Cell
 cell_of x = record {
   upper = record { value = upper_half x; good = is_clear 31 x };

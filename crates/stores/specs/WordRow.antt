@@ -1,8 +1,8 @@
 -- The laws of the word store's row: its length, its cells, and what a changed number changes.
-use Rattle.std.specs.Prelude.{◌≡◌, ℕ, ◌*◌, ◌/◌, ◌<◌, ◌≤◌, min, List, map, length, take, Some, get_or, slice_get, slice_index, slice_set}
+use Rattle.std.specs.Prelude.{◌≡◌, ℕ, ◌*◌, ◌/◌, ◌<◌, ◌≤◌, min, List, map, length, take, Some, get_or, slice_get, slice_index, slice_index_or, slice_set, refl}
 use Rattle.std.proofs.Common.{sym, ap, ◌∙◌, subst, arith}
 use Rattle.std.proofs.lemmas.List.{map-set}
-use Rattle.std.proofs.lemmas.Option.{get_or_from_slice_get, slice_get-get_or}
+use Rattle.std.proofs.lemmas.Option.{get_or_from_slice_get, slice_get-get_or, slice_get_read}
 use Rattle.store.specs.Cells.{cell_at, CellFits, good_cell, most_cells}
 use Rattle.stores.specs.Word.{cell_of, cell_count, row_of, number_replaced}
 use Rattle.stores.specs.Cut.{cut_changed}
@@ -30,11 +30,18 @@ row_fits xs a within =
     let cell = row_at xs a within x (slice_get-get_or xs a 0 (omega (arith, length_row xs))) in
     subst CellFits (sym cell) (omega arith, omega arith)
 
--- what a read of the memory at a cell's number tells
-pub row_read : (xs : List ℕ) (a i x : ℕ) → a < length (row_of xs) → i ≡ a * 1 → slice_get xs i ≡ Some x → (cell_of x ≡ cell_at (row_of xs) a) × (x ≡ slice_index xs a)
-row_read xs a i x within place read =
+-- what a number that was taken from a cell's place tells
+pub row_taken : (xs : List ℕ) (a i x : ℕ) → a < length (row_of xs) → i ≡ a * 1 → slice_get xs i ≡ Some x → (cell_of x ≡ cell_at (row_of xs) a) × (x ≡ slice_index xs a)
+row_taken xs a i x within place read =
     let here : slice_get xs a ≡ Some x = subst (λ k. slice_get xs k ≡ Some x) (omega arith) read in
     (sym (row_at xs a within x here), sym (get_or_from_slice_get xs a x 0 here))
+
+-- the same of a read, where the count tells that there is such a cell
+pub row_read : (xs : List ℕ) (a x : ℕ) → a < cell_count xs → x ≡ slice_index_or xs a x → (a < length (row_of xs)) × (cell_of x ≡ cell_at (row_of xs) a) × (x ≡ slice_index xs a)
+row_read xs a x low read =
+    let within : a < length (row_of xs) = omega (arith, length_row xs) in
+    let taken = row_taken xs a a x within (omega arith) (slice_get_read xs (length xs) a x refl (omega arith) read) in
+    (within, taken.0, taken.1)
 
 -- any number of the memory, also one that no cell has
 pub row_replaced : (xs : List ℕ) (i y : ℕ) → row_of (slice_set xs i y) ≡ number_replaced (row_of xs) i y

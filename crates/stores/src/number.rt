@@ -1,4 +1,4 @@
-// One 32-bit number of the word store: bits 29 to 0 are the word, bit 31 marks the upper half spoiled, bit 30 the lower.
+// One 32-bit number of the word store: the word in bits 29 to 0, and above it two marks of spoiled halves: bit 31 of the upper one, bit 30 of the lower.
 ghost use Rattle.std.specs.Prelude.{◌≡◌, Ok, IfOk};
 ghost use Rattle.store.specs.Cells.{part, other_half, value_of, with_half};
 ghost use Rattle.store.specs.Functions.{if_good};

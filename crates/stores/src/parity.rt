@@ -1,5 +1,5 @@
 // The parity store: a cell is two 16-bit numbers, the upper half first. An odd last number and numbers past 131,072 cells belong to no cell.
-ghost use Rattle.std.specs.Prelude.{◌≡◌, ◌<◌, ◌≤◌, length, is_ok, OnErr, if◌then◌else◌};
+ghost use Rattle.std.specs.Prelude.{◌≡◌, ◌<◌, length, is_ok, OnErr, if◌then◌else◌};
 ghost use Rattle.std.proofs.Common.{arith};
 ghost use Rattle.store.specs.Cells.{cell_at, part};
 ghost use Rattle.store.specs.Functions.{put_whole_answer, half_put, Finds};

@@ -34,7 +34,7 @@ pub(crate) fn half_number(value: u32) -> u16
     ensures value { result ≡ half_number value }
     ensures half { half_of result ≡ good_half value }
 {
-    // By `as`, since a u32 has no From into a u16; a half fits.
+    // By `as`: a half fits, and a From of it would hold the same cast.
     let bits = half_bits(value).get() as u16;
     if is_good(bits) {
         bits

@@ -1,4 +1,4 @@
--- A word has 30 bits, numbered 29 down to 0. Its upper half is bits 29 to 15, its lower half bits 14 to 0.
+-- Of a word's 30 bits the higher fifteen, 29 to 15, are its upper half, and the lower fifteen, 14 to 0, its lower half.
 -- Each definition takes any number, and looks only at the bits that count.
 use Rattle.std.specs.Prelude.{ℕ, ◌+◌, ◌*◌, ◌/◌, ◌%◌, ◌^◌}
 
