@@ -1,4 +1,5 @@
 // What the library reads and answers, bad lines too.
+use memories::{Kind, Layout, Part, Rule, Side};
 use script::{
     Answer, Failure, Problem, Reason, Session, Statement, play, read_number, read_statement,
     split_words,
@@ -59,19 +60,59 @@ fn words(rt: HostRuntime) -> Result<(), Fail> {
     check_words(&rt, heap, b"  load  0x10 b  ", &[b"load", b"0x10", b"b"])
 }
 
+fn read(heap: Global, line: &[u8]) -> Result<Statement, Failure<Reason>> {
+    Ok(read_statement(split_words(heap, line)?.as_slice())?)
+}
+
 #[test]
-fn statements(rt: HostRuntime) -> Result<(), Fail> {
-    let words = split_words(rt.alloc(), b"put-half 0o17 lower 9")?;
+fn statements(rt: HostRuntime) {
+    let heap = rt.alloc();
     assert_eq!(rt;
-        read_statement(words.as_slice()),
+        read(heap, b"put-half 0o17 lower 9"),
         Ok(Statement::Operation(Operation::PutHalf {
             address: CellAddress(15),
             half: Half::Lower,
             value: 9,
         }))
     );
-    assert_eq!(rt; read_statement(&[]), Err(Reason::WordCount));
-    Ok(())
+    assert_eq!(rt;
+        read(heap, b"raw second 3 5"),
+        Ok(Statement::Raw {
+            side: Side::Second,
+            index: 3,
+            value: 5,
+        })
+    );
+    assert_eq!(rt; read(heap, b""), Err(Failure::Wrong(Reason::WordCount)));
+}
+
+#[test]
+fn layouts(rt: HostRuntime) {
+    let parity = Part {
+        kind: Kind::Parity,
+        size: 7,
+    };
+    let word = Part {
+        kind: Kind::Word,
+        size: 8,
+    };
+    let pair = |rule| Layout::Pair {
+        rule,
+        first: parity,
+        second: word,
+    };
+    let lines: [(&[u8], Layout); 4] = [
+        (b"memory parity 7", Layout::Single(parity)),
+        (b"memory word 0o10", Layout::Single(word)),
+        (b"memory continuous parity 7 word 8", pair(Rule::Continuous)),
+        (
+            b"memory interleaved parity 7 word 8",
+            pair(Rule::Interleaved),
+        ),
+    ];
+    for (line, layout) in lines {
+        assert_eq!(rt; read(rt.alloc(), line), Ok(Statement::Memory(layout)));
+    }
 }
 
 #[test]
@@ -82,8 +123,12 @@ fn a_statement_before_the_memory(rt: HostRuntime) -> Result<(), Fail> {
         session.perform(rt.alloc(), count),
         Err(Failure::Wrong(Reason::NoMemory))
     );
+    let words = Part {
+        kind: Kind::Word,
+        size: 262_144,
+    };
     assert_eq!(rt;
-        session.perform(rt.alloc(), Statement::Memory(262_144)),
+        session.perform(rt.alloc(), Statement::Memory(Layout::Single(words))),
         Ok(Answer::Done)
     );
     assert_eq!(rt;
@@ -93,51 +138,95 @@ fn a_statement_before_the_memory(rt: HostRuntime) -> Result<(), Fail> {
     Ok(())
 }
 
-// What line 2 comes to after a memory of two numbers.
-fn second_line(heap: Global, line: &[u8]) -> Result<Option<Vec<u8>>, Failure<Problem>> {
+// What line 2 comes to after a first line.
+fn second_line(
+    heap: Global,
+    first: &[u8],
+    line: &[u8],
+) -> Result<Option<Vec<u8>>, Failure<Problem>> {
     let mut session = Session::new();
-    let _ = session.play_line(heap, 1, b"memory word 2")?;
+    let _ = session.play_line(heap, 1, first)?;
     session.play_line(heap, 2, line)
 }
 
 #[test]
-fn bad_lines(rt: HostRuntime) -> Result<(), Fail> {
-    let lines: [(&[u8], Reason); 18] = [
+fn bad_lines(rt: HostRuntime) {
+    let lines: [(&[u8], Reason); 29] = [
         (b"install", Reason::UnknownWord),
         (b"Count", Reason::UnknownWord),
-        (b"memory parity 2", Reason::UnknownWord),
+        (b"memory card 2", Reason::UnknownWord),
+        (b"memory second", Reason::UnknownWord),
+        (b"memory interleaved word 2 card 2", Reason::UnknownWord),
         (b"put-half 0 middle 1", Reason::UnknownWord),
         (b"count\t", Reason::UnknownWord),
         (b"memory", Reason::WordCount),
         (b"memory word", Reason::WordCount),
+        (b"memory parity 2 word 2", Reason::WordCount),
+        (b"memory continuous card 2", Reason::WordCount),
+        (b"memory continuous word 2 word 2 3", Reason::WordCount),
         (b"count 1", Reason::WordCount),
         (b"fetch", Reason::WordCount),
         (b"raw 0", Reason::WordCount),
+        (b"raw second 0", Reason::WordCount),
         (b"put 0 1 2", Reason::WordCount),
         (b"put-half 0 upper", Reason::WordCount),
         (b"fetch one", Reason::NotANumber),
         (b"put 0 0o9", Reason::NotANumber),
+        (b"raw second second 0", Reason::NotANumber),
+        (b"memory interleaved word two card 2", Reason::NotANumber),
         (b"fetch 4294967296", Reason::TooLarge),
-        (b"memory word 1", Reason::SecondMemory),
-        (b"memory word 262145", Reason::OutOfRange),
+        (b"memory parity 1", Reason::SecondMemory),
+        (b"memory parity 262145", Reason::OutOfRange),
+        (b"memory continuous word 2 word 262145", Reason::OutOfRange),
         (b"raw 2 0", Reason::OutOfRange),
+        (b"raw second 0 0", Reason::OutOfRange),
+        (b"raw second 4294967296 x", Reason::TooLarge),
     ];
     for (line, reason) in lines {
         assert_eq!(rt;
-            second_line(rt.alloc(), line),
+            second_line(rt.alloc(), b"memory word 2", line),
             Err(Failure::Wrong(Problem { line: 2, reason }))
         );
     }
-    Ok(())
+}
+
+#[test]
+fn numbers_out_of_range_in_a_pair(rt: HostRuntime) {
+    let lines: [&[u8]; 4] = [
+        b"raw 2 0",
+        b"raw second 3 0",
+        b"raw second 0 65536",
+        b"raw second 0xffffffff 0",
+    ];
+    for line in lines {
+        assert_eq!(rt;
+            second_line(rt.alloc(), b"memory continuous word 2 parity 3", line),
+            Err(Failure::Wrong(Problem {
+                line: 2,
+                reason: Reason::OutOfRange,
+            }))
+        );
+    }
 }
 
 #[test]
 fn good_lines(rt: HostRuntime) -> Result<(), Fail> {
     let heap = rt.alloc();
-    assert_eq!(rt; second_line(heap, b" # nothing"), Ok(None));
     assert_eq!(rt;
-        second_line(heap, b"raw  1 0 "),
-        Ok(Some(b"raw 1 0 -> ok".to_vec(heap)?))
+        second_line(heap, b"memory word 2", b" # nothing"),
+        Ok(None)
+    );
+    assert_eq!(rt;
+        second_line(heap, b"memory word 2", b"raw  1 0xffffffff "),
+        Ok(Some(b"raw 1 0xffffffff -> ok".to_vec(heap)?))
+    );
+    assert_eq!(rt;
+        second_line(
+            heap,
+            b"memory continuous word 2 parity 3",
+            b"raw second 2 65535"
+        ),
+        Ok(Some(b"raw second 2 65535 -> ok".to_vec(heap)?))
     );
     Ok(())
 }

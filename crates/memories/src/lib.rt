@@ -8,7 +8,7 @@ mod setup;
 
 pub use bank::OutOfRange;
 pub use layout::{Kind, Layout, Part};
-pub use pairs::Side;
+pub use pairs::{Rule, Side};
 pub use setup::Setup;
 
 #[cfg(test)]

@@ -6,12 +6,13 @@ use Rattle.std.proofs.lemmas.List.FromFn.{length-enumerate_from, get_or-enumerat
 use Rattle.script.specs.declared.problem.Problem.{Problem}
 use Rattle.script.specs.Play.{line_played, line_left}
 use Rattle.script.specs.Script.{grown, lines_played}
+use Rattle.script.specs.Session.{State}
 
 -- what is the turn of a part, numbered from 0, after k parts
 abbrev pub IsTurn : ℕ → List (List ℕ) → ℕ → List ℕ → Type 0
 IsTurn k ls i line = (k < length (enumerate_from 0 ls)) × ((i, line) ≡ get_or (enumerate_from 0 ls) k (i, line))
 
-module _ (t : List ℕ) (memory : Option (List ℕ)) (ls : List (List ℕ)) {X : Type 0} (ys : List X) where
+module _ (t : List ℕ) (memory : State) (ls : List (List ℕ)) {X : Type 0} (ys : List X) where
   module _ (i : ℕ) (line : List ℕ) (turn : IsTurn (length ys) ls i line) where
     within : length ys < length ls
     within = omega (arith, turn.0, length-enumerate_from 0 ls)
@@ -31,7 +32,7 @@ module _ (t : List ℕ) (memory : Option (List ℕ)) (ls : List (List ℕ)) {X :
     unfolding lines_played
     played_bad p e = here ∙ rw (sym e)
 
-    pub played_on : (y : X) (text : Option (List ℕ)) (u : List ℕ) (after : Option (List ℕ)) → Ok text ≡ line_played memory (i + 1) line → u ≡ grown t text → after ≡ line_left memory line → lines_played u after (length (ys ++ y ∷ []) + 1) (drop (length (ys ++ y ∷ [])) ls) ≡ lines_played t memory (length ys + 1) (drop (length ys) ls)
+    pub played_on : (y : X) (text : Option (List ℕ)) (u : List ℕ) (after : State) → Ok text ≡ line_played memory (i + 1) line → u ≡ grown t text → after ≡ line_left memory line → lines_played u after (length (ys ++ y ∷ []) + 1) (drop (length (ys ++ y ∷ [])) ls) ≡ lines_played t memory (length ys + 1) (drop (length ys) ls)
     unfolding lines_played
     played_on y text u after e grows leaves =
         let longer : length (ys ++ y ∷ []) ≡ i + 1 = length_push ys y ∙ ap (λ (p : ℕ × List ℕ). p.0 + 1) (sym place) in

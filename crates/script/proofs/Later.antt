@@ -4,6 +4,7 @@ use Rattle.script.specs.declared.problem.Problem.{Problem}
 use Rattle.script.specs.Line.{lines_after, lines_of}
 use Rattle.script.specs.Play.{line_played, line_left}
 use Rattle.script.specs.Script.{Outcome, grown, goes_on, lines_played, TranscriptStays}
+use Rattle.script.specs.Session.{State}
 
 abbrev Begins : {X : Type 0} → List X → List X → Type 0
 Begins {X} xs ys = (rest : List X) × (xs ≡ ys ++ rest)
@@ -30,7 +31,7 @@ grows_after t (Ok (Some text)) rest h =
     (text ++ 10 ∷ p.0, p.1 ∙ append_assoc (t ++ text) (10 ∷ []) p.0 ∙ append_assoc t text (10 ∷ p.0))
 grows_after t (Err e) rest h = ends t
 
-grows : (t : List ℕ) (memory : Option (List ℕ)) (number : ℕ) (ls : List (List ℕ)) → Begins (lines_played t memory number ls).transcript t
+grows : (t : List ℕ) (memory : State) (number : ℕ) (ls : List (List ℕ)) → Begins (lines_played t memory number ls).transcript t
 unfolding lines_played
 grows t memory number [] = ends t
 grows t memory number (l ∷ ls) = grows_after t (line_played memory number l) _ (λ u. grows u (line_left memory l) (number + 1) ls)
@@ -40,7 +41,7 @@ stays_after : (t : List ℕ) (r : Result (Option (List ℕ)) Problem) (rest rest
 stays_after t (Ok text) rest rest' h = h (grown t text)
 stays_after t (Err e) rest rest' h = ends t
 
-stays : (t : List ℕ) (memory : Option (List ℕ)) (number : ℕ) (ls more : List (List ℕ)) → Begins (lines_played t memory number (ls ++ more)).transcript (lines_played t memory number ls).transcript
+stays : (t : List ℕ) (memory : State) (number : ℕ) (ls more : List (List ℕ)) → Begins (lines_played t memory number (ls ++ more)).transcript (lines_played t memory number ls).transcript
 unfolding lines_played
 stays t memory number [] more = grows t memory number more
 stays t memory number (l ∷ ls) more = stays_after t (line_played memory number l) _ _ (λ u. stays u (line_left memory l) (number + 1) ls more)

@@ -16,6 +16,7 @@ use Rattle.script.specs.declared.problem.Problem.{Problem}
 use Rattle.script.specs.Line.{begun, lines_after}
 use Rattle.script.specs.Play.{line_played, line_left}
 use Rattle.script.specs.Script.{Outcome, goes_on, lines_played, script_played}
+use Rattle.script.specs.Session.{State}
 use Rattle.script.proofs.Parts.{onto, onto_none, onto_first_again}
 
 abbrev pub is_line_feed : ℕ → Bool
@@ -53,7 +54,7 @@ same_after : (t : List ℕ) (r : Result (Option (List ℕ)) Problem) (rest rest'
 same_after t (Ok text) rest rest' same = same _
 same_after t (Err p) rest rest' same = refl
 
-trimmed_plays : (t : List ℕ) (memory : Option (List ℕ)) (number : ℕ) (parts : List (List ℕ)) → lines_played t memory number parts ≡ lines_played t memory number (trimmed parts)
+trimmed_plays : (t : List ℕ) (memory : State) (number : ℕ) (parts : List (List ℕ)) → lines_played t memory number parts ≡ lines_played t memory number (trimmed parts)
 unfolding lines_played line_played
 trimmed_plays t memory number [] = refl
 trimmed_plays t memory number ([] ∷ []) = refl

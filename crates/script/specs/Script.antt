@@ -6,6 +6,7 @@ use Rattle.script.specs.declared.player.Played.{Played}
 use Rattle.script.specs.declared.problem.Problem.{Problem}
 use Rattle.script.specs.Line.{lines_of}
 use Rattle.script.specs.Play.{line_played, line_left}
+use Rattle.script.specs.Session.{State}
 
 pub record Outcome : Type 0 where
   pub transcript : List ℕ
@@ -31,7 +32,7 @@ goes_on t (Ok text) rest = rest (grown t text)
 goes_on t (Err p) rest = record { transcript = t; problem = Some p }
 
 -- lines, of which the first has a number, after the transcript t
-unfoldable pub lines_played : List ℕ → Option (List ℕ) → ℕ → List (List ℕ) → Outcome
+unfoldable pub lines_played : List ℕ → State → ℕ → List (List ℕ) → Outcome
 lines_played t memory number [] = record { transcript = t; problem = None }
 lines_played t memory number (line ∷ lines) = goes_on t (line_played memory number line) (λ u. lines_played u (line_left memory line) (number + 1) lines)
 

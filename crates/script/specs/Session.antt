@@ -1,11 +1,8 @@
--- What statements answer, and what they leave of the console's memory: none, until a `memory` statement, and then the numbers of a word store.
-use Rattle.std.specs.Prelude.{ℕ, List, length, replicate, is_ok, if◌then◌else◌, Some, None, Ok, Err, Option, Result, nat_lt, slice_index, slice_set}
-use Rattle.words.specs.Words.{word_bits}
-use Rattle.store.specs.declared.operation.Operation.{Operation}
-use Rattle.store.specs.declared.operation.Operation.TheVariants as op
-use Rattle.store.specs.Functions.{put_whole_answer, put_half_answer}
+-- What statements answer, and what they leave of the console's memory: none, until a `memory` statement makes one.
+use Rattle.std.specs.Prelude.{if◌then◌else◌, Some, None, Ok, Err, Option, Result}
 use Rattle.store.specs.Operations.{replied}
-use Rattle.stores.specs.Word.{row_of, half_written}
+use Rattle.memories.specs.Any.{Memory, row_of}
+use Rattle.memories.specs.Setup.{new_memory, left_in, can_damage, damaged}
 use Rattle.script.specs.declared.answer.Answer.{Answer}
 use Rattle.script.specs.declared.answer.Answer.TheVariants as answer
 use Rattle.script.specs.declared.reason.Reason.{Reason}
@@ -13,34 +10,31 @@ use Rattle.script.specs.declared.reason.Reason.TheVariants.{NoMemory, SecondMemo
 use Rattle.script.specs.declared.statement.Statement.{Statement}
 use Rattle.script.specs.declared.statement.Statement.TheVariants as st
 
--- what one of the store's functions leaves of the numbers
-abbrev pub numbers_left : List ℕ → Operation → List ℕ
-numbers_left xs op.Count = xs
-numbers_left xs (op.Fetch a) = xs
-numbers_left xs (op.PutWhole a w) = if is_ok (put_whole_answer (row_of xs) a.0) then slice_set xs a.0 (word_bits w) else xs
-numbers_left xs (op.PutHalf a h v) = if is_ok (put_half_answer (row_of xs) a.0 h) then slice_set xs a.0 (half_written (slice_index xs a.0) h v) else xs
+-- the console's memory, if it has one yet
+abbrev pub State : Type 0
+State = Option Memory
 
 -- what a statement answers over a memory
-abbrev pub answered_on : List ℕ → Statement → Result Answer Reason
-answered_on xs (st.Memory n) = Err SecondMemory
-answered_on xs (st.Raw i v) = if nat_lt i (length xs) then Ok answer.Done else Err OutOfRange
-answered_on xs (st.Operation o) = Ok (answer.Reply (replied (row_of xs) o))
+abbrev pub answered_on : Memory → Statement → Result Answer Reason
+answered_on m (st.Memory l) = Err SecondMemory
+answered_on m (st.Raw side i v) = if can_damage m side i v then Ok answer.Done else Err OutOfRange
+answered_on m (st.Operation o) = Ok (answer.Reply (replied (row_of m.shown) o))
 
 -- and leaves of it
-abbrev pub left_on : List ℕ → Statement → List ℕ
-left_on xs (st.Memory n) = xs
-left_on xs (st.Raw i v) = slice_set xs i v
-left_on xs (st.Operation o) = numbers_left xs o
+abbrev pub left_on : Memory → Statement → Memory
+left_on m (st.Memory l) = m
+left_on m (st.Raw side i v) = if can_damage m side i v then damaged m side i v else m
+left_on m (st.Operation o) = left_in m o
 
--- before any memory there is only `memory` to do, which makes one of good zero words
-abbrev pub answered : Option (List ℕ) → Statement → Result Answer Reason
-answered (Some xs) s = answered_on xs s
-answered None (st.Memory n) = Ok answer.Done
-answered None (st.Raw i v) = Err NoMemory
+-- before any memory there is only `memory` to do, which makes one
+abbrev pub answered : State → Statement → Result Answer Reason
+answered (Some m) s = answered_on m s
+answered None (st.Memory l) = Ok answer.Done
+answered None (st.Raw side i v) = Err NoMemory
 answered None (st.Operation o) = Err NoMemory
 
-abbrev pub left : Option (List ℕ) → Statement → Option (List ℕ)
-left (Some xs) s = Some (left_on xs s)
-left None (st.Memory n) = Some (replicate n 0)
-left None (st.Raw i v) = None
+abbrev pub left : State → Statement → State
+left (Some m) s = Some (left_on m s)
+left None (st.Memory l) = Some (new_memory l)
+left None (st.Raw side i v) = None
 left None (st.Operation o) = None

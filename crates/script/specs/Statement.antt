@@ -1,10 +1,18 @@
 -- The grammar of statements: a name, and the words that it takes.
-use Rattle.std.specs.Prelude.{ℕ, List, [], ◌∷◌, length, if◌then◌else◌, Ok, Err, codes, Result, ◌==◌, nat_le, slice_index_or}
+use Rattle.std.specs.Prelude.{ℕ, List, [], ◌∷◌, length, drop, if◌then◌else◌, Some, None, Ok, Err, codes, Option, Result, ◌==◌, nat_le, slice_index_or}
 use Rattle.std.specs.Str.{bytes_eq}
 use Rattle.store.specs.declared.address.CellAddress.{CellAddress}
 use Rattle.store.specs.declared.half.Half.{Half}
 use Rattle.store.specs.declared.half.Half.TheVariants.{Upper, Lower}
 use Rattle.store.specs.declared.operation.Operation.TheVariants as op
+use Rattle.pairs.specs.declared.place.Side.{Side}
+use Rattle.pairs.specs.declared.place.Side.TheVariants.{First, Second}
+use Rattle.pairs.specs.declared.rule.Rule.{Rule}
+use Rattle.pairs.specs.declared.rule.Rule.TheVariants.{Continuous, Interleaved}
+use Rattle.memories.specs.declared.layout.Kind.{Kind}
+use Rattle.memories.specs.declared.layout.Kind.TheVariants.{Word, Parity}
+use Rattle.memories.specs.declared.layout.Layout.TheVariants.{Single, Pair}
+use Rattle.memories.specs.declared.layout.Part.{Part}
 use Rattle.script.specs.declared.reason.Reason.{Reason}
 use Rattle.script.specs.declared.reason.Reason.TheVariants.{UnknownWord, WordCount, OutOfRange}
 use Rattle.script.specs.declared.statement.Statement.{Statement}
@@ -29,21 +37,69 @@ nth_word args i = slice_index_or args i []
 abbrev pub address : ℕ → CellAddress
 address a = record { 0 = a }
 
--- memory word N, with N at most 262,144
-abbrev pub memory_statement : List (List ℕ) → Result Statement Reason
-memory_statement args =
-    if length args == 0 then Err WordCount
-    else (if bytes_eq (nth_word args 0) (codes "word") then takes 2 args (do
-      n ← number_of (nth_word args 1)
-      if nat_le n 262144 then Ok (st.Memory n) else Err OutOfRange)
+-- KIND
+abbrev pub kind_of : List ℕ → Result Kind Reason
+kind_of w =
+    if bytes_eq w (codes "word") then Ok Word
+    else (if bytes_eq w (codes "parity") then Ok Parity
     else Err UnknownWord)
 
--- raw INDEX VALUE
-abbrev pub raw_statement : List (List ℕ) → Result Statement Reason
-raw_statement args = takes 2 args (do
+-- N: at most 262,144
+abbrev pub size_of : List ℕ → Result ℕ Reason
+size_of w = do
+  n ← number_of w
+  if nat_le n 262144 then Ok n else Err OutOfRange
+
+-- KIND N
+abbrev pub part_of : List ℕ → List ℕ → Result Part Reason
+part_of k n = do
+  kind ← kind_of k
+  size ← size_of n
+  Ok (record { kind = kind; size = size })
+
+-- memory KIND N
+abbrev pub single_statement : List ℕ → List (List ℕ) → Result Statement Reason
+single_statement k args = do
+  kind ← kind_of k
+  takes 1 args (do
+    size ← size_of (nth_word args 0)
+    Ok (st.Memory (Single (record { kind = kind; size = size }))))
+
+-- memory continuous KIND N KIND M, memory interleaved KIND N KIND M
+abbrev pub pair_statement : Rule → List (List ℕ) → Result Statement Reason
+pair_statement rule args = takes 4 args (do
+  first ← part_of (nth_word args 0) (nth_word args 1)
+  second ← part_of (nth_word args 2) (nth_word args 3)
+  Ok (st.Memory (Pair rule first second)))
+
+-- the rule that joins two memories, if a word names one
+abbrev pub rule_of : List ℕ → Option Rule
+rule_of w =
+    if bytes_eq w (codes "continuous") then Some Continuous
+    else (if bytes_eq w (codes "interleaved") then Some Interleaved
+    else None)
+
+-- the word after `memory` belongs to the name: a rule, or the kind of a memory that is alone
+abbrev pub layout_statement : Option Rule → List ℕ → List (List ℕ) → Result Statement Reason
+layout_statement (Some rule) w args = pair_statement rule args
+layout_statement None w args = single_statement w args
+
+abbrev pub memory_statement : List (List ℕ) → Result Statement Reason
+memory_statement [] = Err WordCount
+memory_statement (w ∷ args) = layout_statement (rule_of w) w args
+
+-- raw INDEX VALUE, raw second INDEX VALUE
+abbrev pub damage_statement : Side → List (List ℕ) → Result Statement Reason
+damage_statement side args = takes 2 args (do
   i ← number_of (nth_word args 0)
   v ← number_of (nth_word args 1)
-  Ok (st.Raw i v))
+  Ok (st.Raw side i v))
+
+-- a `second` after `raw` belongs to the name
+abbrev pub raw_statement : List (List ℕ) → Result Statement Reason
+raw_statement args =
+    if bytes_eq (nth_word args 0) (codes "second") then damage_statement Second (drop 1 args)
+    else damage_statement First args
 
 -- count
 abbrev pub count_statement : List (List ℕ) → Result Statement Reason

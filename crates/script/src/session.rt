@@ -1,12 +1,11 @@
 // What statements do: the console's memory, made by the first of them.
-ghost use Rattle.std.specs.Prelude.{◌≡◌, ℕ, List, Option, if◌then◌else◌, IsTrue, None, Ok, vec_items};
+ghost use Rattle.std.specs.Prelude.{◌≡◌, if◌then◌else◌, IsTrue, None, Ok, vec_items};
 ghost use Rattle.std.specs.Option.{option_map};
 ghost use Rattle.script.specs.declared.answer.Answer.TheVariants.{Done};
-ghost use Rattle.stores.specs.Memory.{numbers};
 ghost use Rattle.script.specs.Line.{texts};
 ghost use Rattle.script.specs.Failure.{Gives, Leaves, ran_out};
 ghost use Rattle.script.specs.Play.{said_by, left_by, line_played, line_left, ReadsAgain};
-ghost use Rattle.script.specs.Session.{answered, left, answered_on, left_on};
+ghost use Rattle.script.specs.Session.{State, answered, left, answered_on, left_on};
 
 use crate::answer::Answer;
 use crate::failure::Failure;
@@ -15,22 +14,20 @@ use crate::problem::Problem;
 use crate::reason::Reason;
 use crate::statement::{Statement, read_statement};
 use crate::transcript::write_line;
+use memories::Setup;
 use std::alloc::Global;
 use std::marker::Model;
-use store::perform;
-use stores::WordStore;
 
 // The heap comes with each call: as a field it would be asked of whoever calls `new`.
 #[derive(Drop)]
 pub struct Session {
-    store: Option<WordStore>,
+    setup: Option<Setup>,
 }
 
-// A session is the numbers of its memory, if it has one yet.
 impl Model for Session {
-    ghost Value = { Option (List ℕ) };
+    ghost Value = { State };
 
-    ghost view = { λ session. option_map numbers session.store };
+    ghost view = { λ session. session.setup };
 }
 
 impl Session {
@@ -38,7 +35,7 @@ impl Session {
     pub fn new() -> Session
         ensures { result ≡ None }
     {
-        Session { store: None }
+        Session { setup: None }
     }
 
     // Does a statement. Memory can run out only for a new memory, and then everything stays.
@@ -47,8 +44,8 @@ impl Session {
         ensures out_of_memory { IsTrue (ran_out result) → (self.old ≡ None) × (answered None statement ≡ Ok Done) }
         ensures after { self.new ≡ (if ran_out result then self.old else left self.old statement) }
     {
-        match &mut self.store {
-            Some(store) => Ok(on_store(store, statement)?),
+        match &mut self.setup {
+            Some(setup) => Ok(on_setup(setup, statement)?),
             None => self.make(heap, statement),
         }
     }
@@ -96,26 +93,24 @@ impl Session {
         ensures out_of_memory { IsTrue (ran_out result) → answered None statement ≡ Ok Done }
         ensures after { self.new ≡ (if ran_out result then None else left None statement) }
     {
-        let Statement::Memory(size) = statement else {
+        let Statement::Memory(layout) = statement else {
             return Err(Reason::NoMemory.into());
         };
-        // By `as`: a u32 has no From into a usize.
-        let memory = vec![in heap; 0u32; size as usize]?;
-        self.store = Some(WordStore::new(memory));
+        self.setup = Some(Setup::new(heap, layout)?);
         Ok(Answer::Done)
     }
 }
 
-fn on_store(store: &mut WordStore, statement: Statement) -> Result<Answer, Reason>
-    ensures answer { result ≡ answered_on (numbers store.old) statement }
-    ensures after { numbers store.new ≡ left_on (numbers store.old) statement }
+fn on_setup(setup: &mut Setup, statement: Statement) -> Result<Answer, Reason>
+    ensures answer { result ≡ answered_on setup.old statement }
+    ensures after { setup.new ≡ left_on setup.old statement }
 {
     match statement {
         Statement::Memory(_) => Err(Reason::SecondMemory),
-        Statement::Raw { index, value } => {
-            let former = store.replace_number(index, value);
-            former.map(|_| Answer::Done).ok_or(Reason::OutOfRange)
+        Statement::Raw { side, index, value } => {
+            let done = setup.replace_number(side, index, value);
+            done.map(|()| Answer::Done).map_err(|_| Reason::OutOfRange)
         }
-        Statement::Operation(operation) => Ok(Answer::Reply(perform(store, operation))),
+        Statement::Operation(operation) => Ok(Answer::Reply(setup.perform(operation))),
     }
 }

@@ -3,19 +3,19 @@
 
 ghost use Rattle.std.specs.Prelude.{◌≡◌};
 ghost use Rattle.script.specs.Line.{texts};
-ghost use Rattle.script.specs.Statement.{half_of, memory_statement, raw_statement, count_statement, fetch_statement, put_statement, put_half_statement, named_statement, statement_of};
+ghost use Rattle.script.specs.Statement.{half_of, kind_of, size_of, part_of, single_statement, pair_statement, rule_of, memory_statement, damage_statement, raw_statement, count_statement, fetch_statement, put_statement, put_half_statement, named_statement, statement_of};
 
 use crate::number::read_number;
 use crate::reason::Reason;
+use memories::{Kind, Layout, Part, Rule, Side};
 use store::{CellAddress, Half, Operation};
 
 const MOST_NUMBERS: u32 = 262_144;
 
 #[derive(Clone, Copy, Debug, PartialEq, Eq)]
 pub enum Statement {
-    // a word store over so many numbers
-    Memory(u32),
-    Raw { index: u32, value: u32 },
+    Memory(Layout),
+    Raw { side: Side, index: u32, value: u32 },
     Operation(Operation),
 }
 
@@ -30,37 +30,112 @@ fn read_half(word: &[u8]) -> Result<Half, Reason>
     }
 }
 
-// memory word N
-fn memory(args: &[&[u8]]) -> Result<Statement, Reason>
-    ensures { result ≡ memory_statement (texts args.now) }
+// KIND
+fn read_kind(word: &[u8]) -> Result<Kind, Reason>
+    ensures { result ≡ kind_of word.now }
 {
-    // Not one match with `b"word"` in it: tried, and its goals stay open.
-    let [kind, ..] = args else {
-        return Err(Reason::WordCount);
-    };
-    if *kind != b"word".as_slice() {
-        return Err(Reason::UnknownWord);
+    match word {
+        b"word" => Ok(Kind::Word),
+        b"parity" => Ok(Kind::Parity),
+        _ => Err(Reason::UnknownWord),
     }
-    let [_, size] = args else {
-        return Err(Reason::WordCount);
-    };
-    let size = read_number(size)?;
+}
+
+// N
+fn read_size(word: &[u8]) -> Result<u32, Reason>
+    ensures { result ≡ size_of word.now }
+{
+    let size = read_number(word)?;
     if size > MOST_NUMBERS {
         return Err(Reason::OutOfRange);
     }
-    Ok(Statement::Memory(size))
+    Ok(size)
 }
 
-// raw INDEX VALUE
-fn raw(args: &[&[u8]]) -> Result<Statement, Reason>
-    ensures { result ≡ raw_statement (texts args.now) }
+// KIND N
+fn read_part(kind: &[u8], size: &[u8]) -> Result<Part, Reason>
+    ensures { result ≡ part_of kind.now size.now }
+{
+    let kind = read_kind(kind)?;
+    let size = read_size(size)?;
+    Ok(Part { kind, size })
+}
+
+// memory KIND N
+fn single(kind: &[u8], args: &[&[u8]]) -> Result<Statement, Reason>
+    ensures { result ≡ single_statement kind.now (texts args.now) }
+{
+    let kind = read_kind(kind)?;
+    let [size] = args else {
+        return Err(Reason::WordCount);
+    };
+    let size = read_size(size)?;
+    Ok(Statement::Memory(Layout::Single(Part { kind, size })))
+}
+
+// memory continuous KIND N KIND M, memory interleaved KIND N KIND M
+fn pair(rule: Rule, args: &[&[u8]]) -> Result<Statement, Reason>
+    ensures { result ≡ pair_statement rule (texts args.now) }
+{
+    let [first_kind, first_size, second_kind, second_size] = args else {
+        return Err(Reason::WordCount);
+    };
+    let first = read_part(first_kind, first_size)?;
+    let second = read_part(second_kind, second_size)?;
+    Ok(Statement::Memory(Layout::Pair {
+        rule,
+        first,
+        second,
+    }))
+}
+
+fn read_rule(word: &[u8]) -> Option<Rule>
+    ensures { result ≡ rule_of word.now }
+{
+    // Not a match: with a pattern as long as the second the last goal stays open.
+    if word == b"continuous".as_slice() {
+        Some(Rule::Continuous)
+    } else if word == b"interleaved".as_slice() {
+        Some(Rule::Interleaved)
+    } else {
+        None
+    }
+}
+
+// The word after `memory` says what follows.
+#[tactic(auto, using(crate::proofs::Texts::texts_short, crate::proofs::Texts::texts_first))]
+fn memory(args: &[&[u8]]) -> Result<Statement, Reason>
+    ensures { result ≡ memory_statement (texts args.now) }
+{
+    let [word, args @ ..] = args else {
+        return Err(Reason::WordCount);
+    };
+    match read_rule(word) {
+        Some(rule) => pair(rule, args),
+        None => single(word, args),
+    }
+}
+
+// raw INDEX VALUE, raw second INDEX VALUE
+fn damage(side: Side, args: &[&[u8]]) -> Result<Statement, Reason>
+    ensures { result ≡ damage_statement side (texts args.now) }
 {
     let [index, value] = args else {
         return Err(Reason::WordCount);
     };
     let index = read_number(index)?;
     let value = read_number(value)?;
-    Ok(Statement::Raw { index, value })
+    Ok(Statement::Raw { side, index, value })
+}
+
+#[tactic(auto, using(crate::proofs::Texts::texts_short, crate::proofs::Texts::texts_first))]
+fn raw(args: &[&[u8]]) -> Result<Statement, Reason>
+    ensures { result ≡ raw_statement (texts args.now) }
+{
+    match args {
+        [second, args @ ..] if *second == b"second".as_slice() => damage(Side::Second, args),
+        _ => damage(Side::First, args),
+    }
 }
 
 // count
