@@ -1,4 +1,4 @@
-# `make demo` builds the console and plays the example script; `make test` is the gate.
+# `make demo` builds the console and plays `examples/store.script`; `make test` is the gate.
 .PHONY: demo test
 
 demo:

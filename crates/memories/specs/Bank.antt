@@ -1,6 +1,8 @@
--- One memory, by its kind: what it shows, the row of a new one, and what damage from outside makes of it.
-use Rattle.std.specs.Prelude.{◌≡◌, ℕ, ◌^◌, Bool, ◌&&◌, List, length, nat_lt, replicate}
+-- One memory: the row that its numbers mean, and what a put and damage from outside make of them.
+use Rattle.std.specs.Prelude.{ℕ, ◌^◌, Bool, ◌&&◌, List, length, nat_lt, replicate, slice_index, slice_set}
+use Rattle.words.specs.Words.{word_bits}
 use Rattle.store.specs.Cells.{Cell}
+use Rattle.store.specs.declared.half.Half.{Half}
 use Rattle.stores.specs.Memory.{numbers}
 use Rattle.stores.specs.Parity as parity
 use Rattle.stores.specs.Word as word
@@ -8,28 +10,50 @@ use Rattle.memories.specs.declared.bank.Bank.{Bank}
 use Rattle.memories.specs.declared.bank.Bank.TheVariants as bank
 use Rattle.memories.specs.declared.layout.Kind.{Kind}
 use Rattle.memories.specs.declared.layout.Kind.TheVariants.{Word, Parity}
+use Rattle.memories.specs.declared.layout.Part.{Part}
 
-abbrev pub kind_of : Bank → Kind
-kind_of (bank.Word m) = Word
-kind_of (bank.Parity m) = Parity
+pub record Memory : Type 0 where
+  pub kind : Kind
+  pub numbers : List ℕ
 
--- how many numbers it has
-abbrev pub size_of : Bank → ℕ
-size_of (bank.Word m) = length (numbers m)
-size_of (bank.Parity m) = length (numbers m)
+abbrev pub memory_of : Bank → Memory
+memory_of (bank.Word m) = record { kind = Word; numbers = numbers m }
+memory_of (bank.Parity m) = record { kind = Parity; numbers = numbers m }
+
+-- the row that numbers of a kind mean
+abbrev pub row_by : Kind → List ℕ → List Cell
+row_by Word xs = word.row_of xs
+row_by Parity xs = parity.row_of xs
+
+abbrev pub memory_row : Memory → List Cell
+memory_row m = row_by m.kind m.numbers
 
 abbrev pub bank_row : Bank → List Cell
-bank_row (bank.Word m) = word.row m
-bank_row (bank.Parity m) = parity.row m
+bank_row b = memory_row (memory_of b)
 
--- whatever a put does, the memory stays one of its kind and of so many numbers
-abbrev pub KeepsItsLayout : Bank → Bank → Type 0
-KeepsItsLayout before after = (kind_of after ≡ kind_of before) × (size_of after ≡ size_of before)
+-- what a put that is taken makes of numbers of a kind, and so of a memory
+abbrev pub whole_by : Kind → List ℕ → ℕ → ℕ → List ℕ
+whole_by Word xs a w = slice_set xs a (word_bits w)
+whole_by Parity xs a w = parity.whole_written xs a w
 
--- a new memory of n numbers: each is 0, or for parity 32768, so that every half is a good zero
-abbrev pub new_row : Kind → ℕ → List Cell
-new_row Word n = word.row_of (replicate n 0)
-new_row Parity n = parity.row_of (replicate n 32768)
+abbrev pub half_by : Kind → List ℕ → ℕ → Half → ℕ → List ℕ
+half_by Word xs a h v = slice_set xs a (word.half_written (slice_index xs a) h v)
+half_by Parity xs a h v = parity.half_written xs a h v
+
+abbrev pub with_whole : ℕ → Memory → ℕ → Memory
+with_whole w m a = record m { numbers = whole_by m.kind m.numbers a w }
+
+abbrev pub with_half : Half → ℕ → Memory → ℕ → Memory
+with_half h v m a = record m { numbers = half_by m.kind m.numbers a h v }
+
+-- the number of good zeros
+abbrev pub zero_of : Kind → ℕ
+zero_of Word = 0
+zero_of Parity = 32768
+
+-- a new memory
+abbrev pub new_memory : Part → Memory
+new_memory p = record { kind = p.kind; numbers = replicate p.size (zero_of p.kind) }
 
 -- the numbers of a memory are below this
 abbrev pub number_bound : Kind → ℕ
@@ -37,10 +61,8 @@ number_bound Word = 2 ^ 32
 number_bound Parity = 2 ^ 16
 
 -- damage from outside: number i of a memory becomes x, if the memory has a number i and x is one of its numbers
-abbrev pub takes : Kind → ℕ → ℕ → ℕ → Bool
-takes k size i x = nat_lt i size && nat_lt x (number_bound k)
+abbrev pub takes : Memory → ℕ → ℕ → Bool
+takes m i x = nat_lt i (length m.numbers) && nat_lt x (number_bound m.kind)
 
--- the row after number i became x
-abbrev pub damaged_row : Kind → List Cell → ℕ → ℕ → List Cell
-damaged_row Word cs i x = word.number_replaced cs i x
-damaged_row Parity cs i x = parity.number_replaced cs i x
+abbrev pub with_number : ℕ → ℕ → Memory → Memory
+with_number i x m = record m { numbers = slice_set m.numbers i x }

@@ -1,6 +1,6 @@
 // One memory under a store, by its kind.
 ghost use Rattle.std.specs.Prelude.{◌≡◌, is_ok, IfOk, if◌then◌else◌};
-ghost use Rattle.memories.specs.Bank.{kind_of, size_of, bank_row, KeepsItsLayout, new_row, takes, damaged_row};
+ghost use Rattle.memories.specs.Bank.{memory_of, bank_row, with_whole, with_half, new_memory, takes, with_number};
 ghost use Rattle.memories.specs.Laws.{bank_bounded, bank_ranged};
 
 use crate::layout::{Kind, Part};
@@ -13,7 +13,7 @@ use words::Word;
 #[derive(Clone, Copy, Debug, PartialEq, Eq)]
 pub struct OutOfRange;
 
-// Not a general `Either` either: the names of the variants say of which kind the memory is.
+// Not a general `Either`: the names of the variants say of which kind the memory is.
 #[derive(Drop)]
 pub(crate) enum Bank {
     Word(WordStore),
@@ -23,7 +23,7 @@ pub(crate) enum Bank {
 impl Bank {
     // A new memory, with every half a good zero.
     pub(crate) fn new(heap: Global, part: Part) -> Result<Bank, AllocError>
-        ensures { IfOk result (λ b. (kind_of b ≡ part.kind) × (size_of b ≡ part.size) × (bank_row b ≡ new_row part.kind part.size)) }
+        ensures { IfOk result (λ b. memory_of b ≡ new_memory part) }
     {
         // By `as`: a u32 has no From into a usize.
         let size = part.size as usize;
@@ -35,9 +35,8 @@ impl Bank {
 
     // Makes one of its numbers another.
     pub(crate) fn replace_number(&mut self, index: u32, value: u32) -> Result<(), OutOfRange>
-        ensures answer { is_ok result ≡ takes (kind_of self.old) (size_of self.old) index value }
-        ensures row { bank_row self.new ≡ (if is_ok result then damaged_row (kind_of self.old) (bank_row self.old) index value else bank_row self.old) }
-        ensures layout { KeepsItsLayout self.old self.new }
+        ensures answer { is_ok result ≡ takes (memory_of self.old) index value }
+        ensures after { memory_of self.new ≡ (if is_ok result then with_number index value (memory_of self.old) else memory_of self.old) }
     {
         match self {
             Bank::Word(memory) => {
@@ -55,9 +54,9 @@ impl Bank {
 impl Store for Bank {
     ghost cells = { bank_row };
 
-    ghost puts_whole = { λ before a w after. KeepsItsLayout before after };
+    ghost puts_whole = { λ before a w after. memory_of after ≡ with_whole w (memory_of before) a };
 
-    ghost puts_half = { λ before a h v after. KeepsItsLayout before after };
+    ghost puts_half = { λ before a h v after. memory_of after ≡ with_half h v (memory_of before) a };
 
     ghost bounded = { bank_bounded };
 

@@ -2,7 +2,7 @@
 ghost use Rattle.std.specs.Prelude.{◌≡◌, is_ok, IfOk, if◌then◌else◌};
 ghost use Rattle.store.specs.Operations.{replied, left};
 ghost use Rattle.memories.specs.Any.{row_of};
-ghost use Rattle.memories.specs.Setup.{new_memory, left_in, can_damage, damaged};
+ghost use Rattle.memories.specs.Setup.{new_memories, left_in, can_damage, damaged};
 
 use crate::any::AnyStore;
 use crate::bank::{Bank, OutOfRange};
@@ -18,17 +18,17 @@ pub struct Setup {
 }
 
 impl Model for Setup {
-    ghost use Rattle.memories.specs.Any.{Memory, memory_of};
+    ghost use Rattle.memories.specs.Any.{Memories, memories_of};
 
-    ghost Value = { Memory };
+    ghost Value = { Memories };
 
-    ghost view = { λ s. memory_of s.store };
+    ghost view = { λ s. memories_of s.store };
 }
 
 impl Setup {
     // New memories, with every half a good zero.
     pub fn new(heap: Global, layout: Layout) -> Result<Setup, AllocError>
-        ensures { IfOk result (λ s. s ≡ new_memory layout) }
+        ensures { IfOk result (λ s. s ≡ new_memories layout) }
     {
         let store = match layout {
             Layout::Single(part) => AnyStore::Single(Bank::new(heap, part)?),
@@ -47,9 +47,9 @@ impl Setup {
 
     // Does a function of the store.
     pub fn perform(&mut self, operation: Operation) -> Reply
-        ensures answer { result ≡ replied (row_of self.old.shown) operation }
+        ensures answer { result ≡ replied (row_of self.old) operation }
         ensures after { self.new ≡ left_in self.old operation }
-        ensures row { row_of self.new.shown ≡ left (row_of self.old.shown) operation }
+        ensures row { row_of self.new ≡ left (row_of self.old) operation }
     {
         perform(&mut self.store, operation)
     }

@@ -1,8 +1,8 @@
--- What statements answer, and what they leave of the console's memory: none, until a `memory` statement makes one.
+-- What statements answer, and what they leave of the console's memories: none, until a `memory` statement makes them.
 use Rattle.std.specs.Prelude.{if◌then◌else◌, Some, None, Ok, Err, Option, Result}
 use Rattle.store.specs.Operations.{replied}
-use Rattle.memories.specs.Any.{Memory, row_of}
-use Rattle.memories.specs.Setup.{new_memory, left_in, can_damage, damaged}
+use Rattle.memories.specs.Any.{Memories, row_of}
+use Rattle.memories.specs.Setup.{new_memories, left_in, can_damage, damaged}
 use Rattle.script.specs.declared.answer.Answer.{Answer}
 use Rattle.script.specs.declared.answer.Answer.TheVariants as answer
 use Rattle.script.specs.declared.reason.Reason.{Reason}
@@ -10,31 +10,31 @@ use Rattle.script.specs.declared.reason.Reason.TheVariants.{NoMemory, SecondMemo
 use Rattle.script.specs.declared.statement.Statement.{Statement}
 use Rattle.script.specs.declared.statement.Statement.TheVariants as st
 
--- the console's memory, if it has one yet
+-- the console's memories, if it has any yet
 abbrev pub State : Type 0
-State = Option Memory
+State = Option Memories
 
--- what a statement answers over a memory
-abbrev pub answered_on : Memory → Statement → Result Answer Reason
-answered_on m (st.Memory l) = Err SecondMemory
-answered_on m (st.Raw side i v) = if can_damage m side i v then Ok answer.Done else Err OutOfRange
-answered_on m (st.Operation o) = Ok (answer.Reply (replied (row_of m.shown) o))
+-- what a statement answers over memories
+abbrev pub answered_on : Memories → Statement → Result Answer Reason
+answered_on ms (st.Memory l) = Err SecondMemory
+answered_on ms (st.Raw side i v) = if can_damage ms side i v then Ok answer.Done else Err OutOfRange
+answered_on ms (st.Operation o) = Ok (answer.Reply (replied (row_of ms) o))
 
--- and leaves of it
-abbrev pub left_on : Memory → Statement → Memory
-left_on m (st.Memory l) = m
-left_on m (st.Raw side i v) = if can_damage m side i v then damaged m side i v else m
-left_on m (st.Operation o) = left_in m o
+-- and leaves of them
+abbrev pub left_on : Memories → Statement → Memories
+left_on ms (st.Memory l) = ms
+left_on ms (st.Raw side i v) = if can_damage ms side i v then damaged ms side i v else ms
+left_on ms (st.Operation o) = left_in ms o
 
--- before any memory there is only `memory` to do, which makes one
+-- before there are any there is only `memory` to do, which makes them
 abbrev pub answered : State → Statement → Result Answer Reason
-answered (Some m) s = answered_on m s
+answered (Some ms) s = answered_on ms s
 answered None (st.Memory l) = Ok answer.Done
 answered None (st.Raw side i v) = Err NoMemory
 answered None (st.Operation o) = Err NoMemory
 
 abbrev pub left : State → Statement → State
-left (Some m) s = Some (left_on m s)
-left None (st.Memory l) = Some (new_memory l)
+left (Some ms) s = Some (left_on ms s)
+left None (st.Memory l) = Some (new_memories l)
 left None (st.Raw side i v) = None
 left None (st.Operation o) = None

@@ -1,5 +1,5 @@
 -- The grammar of statements: a name, and the words that it takes.
-use Rattle.std.specs.Prelude.{ℕ, List, [], ◌∷◌, length, drop, if◌then◌else◌, Some, None, Ok, Err, codes, Option, Result, ◌==◌, nat_le, slice_index_or}
+use Rattle.std.specs.Prelude.{ℕ, List, [], ◌∷◌, length, drop, if◌then◌else◌, Ok, Err, codes, Result, ◌==◌, nat_le, slice_index_or}
 use Rattle.std.specs.Str.{bytes_eq}
 use Rattle.store.specs.declared.address.CellAddress.{CellAddress}
 use Rattle.store.specs.declared.half.Half.{Half}
@@ -72,21 +72,16 @@ pair_statement rule args = takes 4 args (do
   second ← part_of (nth_word args 2) (nth_word args 3)
   Ok (st.Memory (Pair rule first second)))
 
--- the rule that joins two memories, if a word names one
-abbrev pub rule_of : List ℕ → Option Rule
-rule_of w =
-    if bytes_eq w (codes "continuous") then Some Continuous
-    else (if bytes_eq w (codes "interleaved") then Some Interleaved
-    else None)
-
--- the word after `memory` belongs to the name: a rule, or the kind of a memory that is alone
-abbrev pub layout_statement : Option Rule → List ℕ → List (List ℕ) → Result Statement Reason
-layout_statement (Some rule) w args = pair_statement rule args
-layout_statement None w args = single_statement w args
+-- the word after `memory` belongs to the name: it says what follows
+abbrev pub layout_statement : List ℕ → List (List ℕ) → Result Statement Reason
+layout_statement w args =
+    if bytes_eq w (codes "continuous") then pair_statement Continuous args
+    else (if bytes_eq w (codes "interleaved") then pair_statement Interleaved args
+    else single_statement w args)
 
 abbrev pub memory_statement : List (List ℕ) → Result Statement Reason
 memory_statement [] = Err WordCount
-memory_statement (w ∷ args) = layout_statement (rule_of w) w args
+memory_statement (w ∷ args) = layout_statement w args
 
 -- raw INDEX VALUE, raw second INDEX VALUE
 abbrev pub damage_statement : Side → List (List ℕ) → Result Statement Reason

@@ -1,5 +1,6 @@
 // Why a line is no statement, or one that cannot be done.
-ghost use Rattle.std.specs.Prelude.{Some};
+ghost use Rattle.std.specs.Prelude.{◌≡◌, Some};
+ghost use Rattle.script.specs.declared.reason.Reason.TheVariants as reasons;
 ghost use Rattle.script.specs.Transcript.{reason_text};
 
 use std::error::Error;
@@ -33,3 +34,11 @@ impl fmt::Display for Reason {
 }
 
 impl Error for Reason {}
+
+impl From<memories::OutOfRange> for Reason {
+    ghost from_gives = { λ error reason. reason ≡ reasons.OutOfRange };
+
+    fn from(_: memories::OutOfRange) -> Self {
+        Reason::OutOfRange
+    }
+}

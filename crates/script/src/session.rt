@@ -1,4 +1,4 @@
-// What statements do: the console's memory, made by the first of them.
+// What statements do: the console's memories, made by the first of them.
 ghost use Rattle.std.specs.Prelude.{◌≡◌, if◌then◌else◌, IsTrue, None, Ok, vec_items};
 ghost use Rattle.std.specs.Option.{option_map};
 ghost use Rattle.script.specs.declared.answer.Answer.TheVariants.{Done};
@@ -24,6 +24,7 @@ pub struct Session {
     setup: Option<Setup>,
 }
 
+// A session is the numbers of its memories, if it has any yet.
 impl Model for Session {
     ghost Value = { State };
 
@@ -101,6 +102,7 @@ impl Session {
     }
 }
 
+// Once there is a memory, all but another `memory` can be done.
 fn on_setup(setup: &mut Setup, statement: Statement) -> Result<Answer, Reason>
     ensures answer { result ≡ answered_on setup.old statement }
     ensures after { setup.new ≡ left_on setup.old statement }
@@ -108,8 +110,8 @@ fn on_setup(setup: &mut Setup, statement: Statement) -> Result<Answer, Reason>
     match statement {
         Statement::Memory(_) => Err(Reason::SecondMemory),
         Statement::Raw { side, index, value } => {
-            let done = setup.replace_number(side, index, value);
-            done.map(|()| Answer::Done).map_err(|_| Reason::OutOfRange)
+            setup.replace_number(side, index, value)?;
+            Ok(Answer::Done)
         }
         Statement::Operation(operation) => Ok(Answer::Reply(setup.perform(operation))),
     }

@@ -3,19 +3,23 @@
 
 ghost use Rattle.std.specs.Prelude.{◌≡◌};
 ghost use Rattle.script.specs.Line.{texts};
-ghost use Rattle.script.specs.Statement.{half_of, kind_of, size_of, part_of, single_statement, pair_statement, rule_of, memory_statement, damage_statement, raw_statement, count_statement, fetch_statement, put_statement, put_half_statement, named_statement, statement_of};
+ghost use Rattle.script.specs.Statement.{half_of, kind_of, size_of, part_of, single_statement, pair_statement, layout_statement, memory_statement, damage_statement, raw_statement, count_statement, fetch_statement, put_statement, put_half_statement, named_statement, statement_of};
 
 use crate::number::read_number;
 use crate::reason::Reason;
 use memories::{Kind, Layout, Part, Rule, Side};
 use store::{CellAddress, Half, Operation};
 
+// The most numbers that a script's memory may have.
 const MOST_NUMBERS: u32 = 262_144;
 
 #[derive(Clone, Copy, Debug, PartialEq, Eq)]
 pub enum Statement {
+    // makes the memories
     Memory(Layout),
+    // makes a number of a memory another
     Raw { side: Side, index: u32, value: u32 },
+    // does a function of the store
     Operation(Operation),
 }
 
@@ -89,20 +93,20 @@ fn pair(rule: Rule, args: &[&[u8]]) -> Result<Statement, Reason>
     }))
 }
 
-fn read_rule(word: &[u8]) -> Option<Rule>
-    ensures { result ≡ rule_of word.now }
+// The word after `memory` says what follows.
+fn layout(word: &[u8], args: &[&[u8]]) -> Result<Statement, Reason>
+    ensures { result ≡ layout_statement word.now (texts args.now) }
 {
-    // Not a match: with a pattern as long as the second the last goal stays open.
+    // Not a match: with texts as long as these the last arm's goal stays open.
     if word == b"continuous".as_slice() {
-        Some(Rule::Continuous)
+        pair(Rule::Continuous, args)
     } else if word == b"interleaved".as_slice() {
-        Some(Rule::Interleaved)
+        pair(Rule::Interleaved, args)
     } else {
-        None
+        single(word, args)
     }
 }
 
-// The word after `memory` says what follows.
 #[tactic(auto, using(crate::proofs::Texts::texts_short, crate::proofs::Texts::texts_first))]
 fn memory(args: &[&[u8]]) -> Result<Statement, Reason>
     ensures { result ≡ memory_statement (texts args.now) }
@@ -110,10 +114,7 @@ fn memory(args: &[&[u8]]) -> Result<Statement, Reason>
     let [word, args @ ..] = args else {
         return Err(Reason::WordCount);
     };
-    match read_rule(word) {
-        Some(rule) => pair(rule, args),
-        None => single(word, args),
-    }
+    layout(word, args)
 }
 
 // raw INDEX VALUE, raw second INDEX VALUE
@@ -133,7 +134,7 @@ fn raw(args: &[&[u8]]) -> Result<Statement, Reason>
     ensures { result ≡ raw_statement (texts args.now) }
 {
     match args {
-        [second, args @ ..] if *second == b"second".as_slice() => damage(Side::Second, args),
+        [word, args @ ..] if *word == b"second".as_slice() => damage(Side::Second, args),
         _ => damage(Side::First, args),
     }
 }
