@@ -31,7 +31,7 @@ memory_row m = row_by m.kind m.numbers
 abbrev pub bank_row : Bank → List Cell
 bank_row b = memory_row (memory_of b)
 
--- what a put that is taken makes of numbers of a kind, and so of a memory
+-- the numbers after a put whole and after a put half that are taken, by their kind
 abbrev pub whole_by : Kind → List ℕ → ℕ → ℕ → List ℕ
 whole_by Word xs a w = slice_set xs a (word_bits w)
 whole_by Parity xs a w = parity.whole_written xs a w
@@ -40,13 +40,14 @@ abbrev pub half_by : Kind → List ℕ → ℕ → Half → ℕ → List ℕ
 half_by Word xs a h v = slice_set xs a (word.half_written (slice_index xs a) h v)
 half_by Parity xs a h v = parity.half_written xs a h v
 
-abbrev pub with_whole : ℕ → Memory → ℕ → Memory
-with_whole w m a = record m { numbers = whole_by m.kind m.numbers a w }
+-- the memory after them
+abbrev pub memory_with_word : ℕ → Memory → ℕ → Memory
+memory_with_word w m a = record m { numbers = whole_by m.kind m.numbers a w }
 
-abbrev pub with_half : Half → ℕ → Memory → ℕ → Memory
-with_half h v m a = record m { numbers = half_by m.kind m.numbers a h v }
+abbrev pub memory_with_half : Half → ℕ → Memory → ℕ → Memory
+memory_with_half h v m a = record m { numbers = half_by m.kind m.numbers a h v }
 
--- the number of good zeros
+-- the number that holds nothing but good zeros
 abbrev pub zero_of : Kind → ℕ
 zero_of Word = 0
 zero_of Parity = 32768
@@ -64,5 +65,6 @@ number_bound Parity = 2 ^ 16
 abbrev pub takes : Memory → ℕ → ℕ → Bool
 takes m i x = nat_lt i (length m.numbers) && nat_lt x (number_bound m.kind)
 
-abbrev pub with_number : ℕ → ℕ → Memory → Memory
-with_number i x m = record m { numbers = slice_set m.numbers i x }
+-- and the memory is this one then
+abbrev pub memory_with_number : ℕ → ℕ → Memory → Memory
+memory_with_number i x m = record m { numbers = slice_set m.numbers i x }

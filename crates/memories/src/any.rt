@@ -1,6 +1,6 @@
 // One store over any memory that a layout describes.
 ghost use Rattle.memories.specs.Any.{any_row, Changes};
-ghost use Rattle.memories.specs.Bank.{with_whole, with_half};
+ghost use Rattle.memories.specs.Bank.{memory_with_word, memory_with_half};
 ghost use Rattle.memories.specs.Laws.{bounded as is_bounded, ranged as is_ranged};
 
 use crate::bank::Bank;
@@ -17,9 +17,9 @@ pub(crate) enum AnyStore {
 impl Store for AnyStore {
     ghost cells = { any_row };
 
-    ghost puts_whole = { λ before a w after. Changes before a (with_whole w) after };
+    ghost puts_whole = { λ before a w after. Changes before a (memory_with_word w) after };
 
-    ghost puts_half = { λ before a h v after. Changes before a (with_half h v) after };
+    ghost puts_half = { λ before a h v after. Changes before a (memory_with_half h v) after };
 
     ghost bounded = { is_bounded };
 

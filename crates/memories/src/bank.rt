@@ -1,6 +1,6 @@
 // One memory under a store, by its kind.
 ghost use Rattle.std.specs.Prelude.{◌≡◌, is_ok, IfOk, if◌then◌else◌};
-ghost use Rattle.memories.specs.Bank.{memory_of, bank_row, with_whole, with_half, new_memory, takes, with_number};
+ghost use Rattle.memories.specs.Bank.{memory_of, bank_row, memory_with_word, memory_with_half, new_memory, takes, memory_with_number};
 ghost use Rattle.memories.specs.Laws.{bank_bounded, bank_ranged};
 
 use crate::layout::{Kind, Part};
@@ -36,7 +36,7 @@ impl Bank {
     // Makes one of its numbers another.
     pub(crate) fn replace_number(&mut self, index: u32, value: u32) -> Result<(), OutOfRange>
         ensures answer { is_ok result ≡ takes (memory_of self.old) index value }
-        ensures after { memory_of self.new ≡ (if is_ok result then with_number index value (memory_of self.old) else memory_of self.old) }
+        ensures after { memory_of self.new ≡ (if is_ok result then memory_with_number index value (memory_of self.old) else memory_of self.old) }
     {
         match self {
             Bank::Word(memory) => {
@@ -54,9 +54,9 @@ impl Bank {
 impl Store for Bank {
     ghost cells = { bank_row };
 
-    ghost puts_whole = { λ before a w after. memory_of after ≡ with_whole w (memory_of before) a };
+    ghost puts_whole = { λ before a w after. memory_of after ≡ memory_with_word w (memory_of before) a };
 
-    ghost puts_half = { λ before a h v after. memory_of after ≡ with_half h v (memory_of before) a };
+    ghost puts_half = { λ before a h v after. memory_of after ≡ memory_with_half h v (memory_of before) a };
 
     ghost bounded = { bank_bounded };
 
