@@ -43,6 +43,11 @@ abbrev pub left_by : List Cell → List Operation → List Cell
 left_by cs [] = cs
 left_by cs (o ∷ os) = left_by (left cs o) os
 
+-- and to the store itself: each does what it does
+abbrev pub DoesAll : {S : Type 0} → (S → List Cell) → (S → ℕ → ℕ → S → Type 0) → (S → ℕ → Half → ℕ → S → Type 0) → List Operation → S → S → Type 0
+DoesAll cells whole half [] s t = t ≡ s
+DoesAll {S} cells whole half (o ∷ os) s t = (m : S) × Does whole half o (replied (cells s) o) s m × DoesAll cells whole half os m t
+
 -- two stores that play the same list are alike: if they mean equal rows before, they get the same answers and mean equal rows after
 abbrev pub Alike : (before_s before_t after_s after_t : List Cell) (answers_s answers_t : List Reply) → Type 0
 Alike before_s before_t after_s after_t answers_s answers_t = before_s ≡ before_t → (answers_s ≡ answers_t) × (after_s ≡ after_t)

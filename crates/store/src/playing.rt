@@ -1,6 +1,6 @@
 // Lists of a store's functions: on one store, and the same list on two.
-ghost use Rattle.std.specs.Prelude.{◌≡◌, ◌+◌, ◌≤◌, ◌++◌, length, is_ok, IfOk, if◌then◌else◌, vec_len, vec_capacity};
-ghost use Rattle.store.specs.Operations.{replies, left_by, Alike};
+ghost use Rattle.std.specs.Prelude.{◌≡◌, ◌+◌, ◌≤◌, ◌++◌, length, is_ok, IfOk, OnOk, OnErr, if◌then◌else◌, vec_len, vec_capacity};
+ghost use Rattle.store.specs.Operations.{replies, left_by, DoesAll, Alike};
 
 use super::{Operation, Reply, Store, perform};
 use std::alloc::{AllocError, Global};
@@ -10,6 +10,7 @@ fn play_into<S: Store>(answers: &mut Vec<Reply>, store: &mut S, operations: &[Op
     requires { vec_len answers.old + length operations.now ≤ vec_capacity answers.old }
     ensures answers { answers.new.items ≡ answers.old.items ++ replies (S.cells store.old) operations.now }
     ensures after { S.cells store.new ≡ left_by (S.cells store.old) operations.now }
+    ensures does { DoesAll S.cells S.puts_whole S.puts_half operations.now store.old store.new }
 {
     // A loop, and no `collect`: room for all the answers was made before the first function is done.
     for operation in operations {
@@ -25,6 +26,8 @@ pub fn play<S: Store>(
 ) -> Result<Vec<Reply>, AllocError>
     ensures answers { IfOk result (λ v. v.items ≡ replies (S.cells store.old) operations.now) }
     ensures after { S.cells store.new ≡ (if is_ok result then left_by (S.cells store.old) operations.now else S.cells store.old) }
+    ensures does { OnOk result (DoesAll S.cells S.puts_whole S.puts_half operations.now store.old store.new) }
+    ensures refused { OnErr result (store.new ≡ store.old) }
 {
     let mut answers = Vec::with_capacity(heap, operations.len())?;
     play_into(&mut answers, store, operations);
@@ -42,6 +45,9 @@ pub fn play_both<S: Store, T: Store>(
     ensures answers { IfOk result (λ p. (p.0.items ≡ replies (S.cells first.old) operations.now) × (p.1.items ≡ replies (T.cells second.old) operations.now)) }
     ensures after_first { S.cells first.new ≡ (if is_ok result then left_by (S.cells first.old) operations.now else S.cells first.old) }
     ensures after_second { T.cells second.new ≡ (if is_ok result then left_by (T.cells second.old) operations.now else T.cells second.old) }
+    ensures first_does { OnOk result (DoesAll S.cells S.puts_whole S.puts_half operations.now first.old first.new) }
+    ensures second_does { OnOk result (DoesAll T.cells T.puts_whole T.puts_half operations.now second.old second.new) }
+    ensures refused { OnErr result ((first.new ≡ first.old) × (second.new ≡ second.old)) }
 {
     let mut first_answers = Vec::with_capacity(heap, operations.len())?;
     let mut second_answers = Vec::with_capacity(heap, operations.len())?;

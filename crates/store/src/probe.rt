@@ -1,5 +1,5 @@
 // A put and then a fetch, over any store: what a memory test does to a cell, and what every client of a store may count on.
-ghost use Rattle.std.specs.Prelude.{◌≡◌, ℕ, length, is_ok, if◌then◌else◌, Ok, Err, ◌≢◌, nat_lt};
+ghost use Rattle.std.specs.Prelude.{◌≡◌, ℕ, length, is_ok, OnOk, OnErr, if◌then◌else◌, Ok, Err, ◌≢◌, nat_lt};
 ghost use Rattle.words.specs.Words.{word_bits};
 ghost use Rattle.store.specs.Cells.{cell_at, with_half};
 ghost use Rattle.store.specs.declared.fault.Fault.TheVariants.{NoCell};
@@ -15,6 +15,8 @@ pub fn probe_whole<S: Store>(store: &mut S, address: CellAddress, word: u32) -> 
     ensures same_cell { fetched (S.cells store.new) address.0 ≡ result }
     ensures other_cells { (a : ℕ) → (a ≢ address.0) → fetched (S.cells store.new) a ≡ fetched (S.cells store.old) a }
     ensures count { length (S.cells store.new) ≡ length (S.cells store.old) }
+    ensures taken { OnOk result (S.puts_whole store.old address.0 word store.new) }
+    ensures refused { OnErr result (store.new ≡ store.old) }
 {
     store.put_whole(address, word)?;
     store.fetch(address)
@@ -31,6 +33,8 @@ pub fn probe_half<S: Store>(
     ensures after { S.cells store.new ≡ (if is_ok result then half_put (S.cells store.old) address.0 half value else S.cells store.old) }
     ensures other_cells { (a : ℕ) → (a ≢ address.0) → fetched (S.cells store.new) a ≡ fetched (S.cells store.old) a }
     ensures count { length (S.cells store.new) ≡ length (S.cells store.old) }
+    ensures taken { OnOk result (S.puts_half store.old address.0 half value store.new) }
+    ensures refused { OnErr result (store.new ≡ store.old) }
 {
     store.put_half(address, half, value)?;
     store.fetch(address)
