@@ -151,7 +151,7 @@ fn second_line(
 
 #[test]
 fn bad_lines(rt: HostRuntime) {
-    let lines: [(&[u8], Reason); 29] = [
+    let lines: [(&[u8], Reason); 31] = [
         (b"install", Reason::UnknownWord),
         (b"Count", Reason::UnknownWord),
         (b"memory card 2", Reason::UnknownWord),
@@ -175,7 +175,9 @@ fn bad_lines(rt: HostRuntime) {
         (b"raw second second 0", Reason::NotANumber),
         (b"memory interleaved word two card 2", Reason::NotANumber),
         (b"fetch 4294967296", Reason::TooLarge),
+        (b"memory word 1", Reason::SecondMemory),
         (b"memory parity 1", Reason::SecondMemory),
+        (b"memory word 262145", Reason::OutOfRange),
         (b"memory parity 262145", Reason::OutOfRange),
         (b"memory continuous word 2 word 262145", Reason::OutOfRange),
         (b"raw 2 0", Reason::OutOfRange),
@@ -217,7 +219,11 @@ fn good_lines(rt: HostRuntime) -> Result<(), Fail> {
         Ok(None)
     );
     assert_eq!(rt;
-        second_line(heap, b"memory word 2", b"raw  1 0xffffffff "),
+        second_line(heap, b"memory word 2", b"raw  1 0 "),
+        Ok(Some(b"raw 1 0 -> ok".to_vec(heap)?))
+    );
+    assert_eq!(rt;
+        second_line(heap, b"memory word 2", b"raw 1 0xffffffff"),
         Ok(Some(b"raw 1 0xffffffff -> ok".to_vec(heap)?))
     );
     assert_eq!(rt;

@@ -26,14 +26,14 @@ row_of (two rule m n) = pair_row rule (record { first = memory_row m; second = m
 abbrev pub any_row : AnyStore → List Cell
 any_row s = row_of (memories_of s)
 
--- with the memory of one side another; a memory that is alone has no second
+-- with f done to the memory of one side; a memory that is alone is the first
 abbrev pub changed_at : Side → (Memory → Memory) → Memories → Memories
 changed_at First f (one m) = one (f m)
 changed_at Second f (one m) = one m
 changed_at First f (two rule m n) = two rule (f m) n
 changed_at Second f (two rule m n) = two rule m (f n)
 
--- with the memory changed in which the cell at an address lies, at its address there
+-- with f done to the memory where the cell at an address lies, at the cell's address there
 abbrev pub changed : Memories → ℕ → (Memory → ℕ → Memory) → Memories
 changed (one m) a f = one (f m a)
 changed (two rule m n) a f = let p = place_of rule (length (memory_row m)) a in changed_at p.side (λ k. f k p.address.0) (two rule m n)

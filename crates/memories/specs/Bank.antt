@@ -40,19 +40,19 @@ abbrev pub half_by : Kind → List ℕ → ℕ → Half → ℕ → List ℕ
 half_by Word xs a h v = slice_set xs a (word.half_written (slice_index xs a) h v)
 half_by Parity xs a h v = parity.half_written xs a h v
 
--- the memory after them
+-- the memory after a put of a word, and of a value in one half, in its cell at an address
 abbrev pub memory_with_word : ℕ → Memory → ℕ → Memory
 memory_with_word w m a = record m { numbers = whole_by m.kind m.numbers a w }
 
 abbrev pub memory_with_half : Half → ℕ → Memory → ℕ → Memory
 memory_with_half h v m a = record m { numbers = half_by m.kind m.numbers a h v }
 
--- the number that holds nothing but good zeros
+-- what each number of a new memory is: good zeros
 abbrev pub zero_of : Kind → ℕ
 zero_of Word = 0
 zero_of Parity = 32768
 
--- a new memory
+-- a new memory of so many numbers
 abbrev pub new_memory : Part → Memory
 new_memory p = record { kind = p.kind; numbers = replicate p.size (zero_of p.kind) }
 
@@ -61,10 +61,10 @@ abbrev pub number_bound : Kind → ℕ
 number_bound Word = 2 ^ 32
 number_bound Parity = 2 ^ 16
 
--- damage from outside: number i of a memory becomes x, if the memory has a number i and x is one of its numbers
+-- damage from outside makes number i of a memory x, if it has a number i and can hold an x
 abbrev pub takes : Memory → ℕ → ℕ → Bool
 takes m i x = nat_lt i (length m.numbers) && nat_lt x (number_bound m.kind)
 
--- and the memory is this one then
+-- the memory after that
 abbrev pub memory_with_number : ℕ → ℕ → Memory → Memory
 memory_with_number i x m = record m { numbers = slice_set m.numbers i x }

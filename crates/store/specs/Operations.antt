@@ -43,7 +43,7 @@ abbrev pub left_by : List Cell → List Operation → List Cell
 left_by cs [] = cs
 left_by cs (o ∷ os) = left_by (left cs o) os
 
--- and to the store itself: each does what it does
+-- what a list of functions does to the store itself: each what it does, one after another
 abbrev pub DoesAll : {S : Type 0} → (S → List Cell) → (S → ℕ → ℕ → S → Type 0) → (S → ℕ → Half → ℕ → S → Type 0) → List Operation → S → S → Type 0
 DoesAll cells whole half [] s t = t ≡ s
 DoesAll {S} cells whole half (o ∷ os) s t = (m : S) × Does whole half o (replied (cells s) o) s m × DoesAll cells whole half os m t

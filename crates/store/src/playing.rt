@@ -27,7 +27,7 @@ pub fn play<S: Store>(
     ensures answers { IfOk result (λ v. v.items ≡ replies (S.cells store.old) operations.now) }
     ensures after { S.cells store.new ≡ (if is_ok result then left_by (S.cells store.old) operations.now else S.cells store.old) }
     ensures does { OnOk result (DoesAll S.cells S.puts_whole S.puts_half operations.now store.old store.new) }
-    ensures refused { OnErr result (store.new ≡ store.old) }
+    ensures out_of_memory { OnErr result (store.new ≡ store.old) }
 {
     let mut answers = Vec::with_capacity(heap, operations.len())?;
     play_into(&mut answers, store, operations);
@@ -47,7 +47,7 @@ pub fn play_both<S: Store, T: Store>(
     ensures after_second { T.cells second.new ≡ (if is_ok result then left_by (T.cells second.old) operations.now else T.cells second.old) }
     ensures first_does { OnOk result (DoesAll S.cells S.puts_whole S.puts_half operations.now first.old first.new) }
     ensures second_does { OnOk result (DoesAll T.cells T.puts_whole T.puts_half operations.now second.old second.new) }
-    ensures refused { OnErr result ((first.new ≡ first.old) × (second.new ≡ second.old)) }
+    ensures out_of_memory { OnErr result ((first.new ≡ first.old) × (second.new ≡ second.old)) }
 {
     let mut first_answers = Vec::with_capacity(heap, operations.len())?;
     let mut second_answers = Vec::with_capacity(heap, operations.len())?;

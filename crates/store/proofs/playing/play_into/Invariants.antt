@@ -2,7 +2,7 @@ use Rattle.std.proofs.Common.{◌≡◌, ◌+◌, ◌≤◌, ◌++◌, length, d
 use Rattle.store.specs.Operations.{replies, left_by, DoesAll}
 use Rattle.store.proofs.playing.play_into.Given as goal
 
--- the answers so far and those to what is left are those to all, and there is room for them
+-- the answers so far and those to what is left are those to all; what is left to do makes of the store what all makes of it; and there is room for the answers
 abbrev pub invariant-loop-operation : goal.invariant-loop-operation
 invariant-loop-operation g l =
     let cells = g.S.Store.cells in
