@@ -12,5 +12,5 @@ pub(crate) fn word(upper: Option<HalfWord>, lower: Option<HalfWord>) -> Result<W
 {
     let upper = upper.ok_or(Fault::Spoiled(Half::Upper))?;
     let lower = lower.ok_or(Fault::Spoiled(Half::Lower))?;
-    Ok(join(upper.get(), lower.get()))
+    Ok(join(upper, lower))
 }

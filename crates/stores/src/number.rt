@@ -5,15 +5,15 @@ ghost use Rattle.store.specs.Functions.{if_good};
 ghost use Rattle.stores.specs.Word.{cell_of, half_written};
 
 use store::{Fault, Half};
-use words::{HalfWord, Word, join, lower_half, upper_half};
+use words::{HalfWord, Word, half_bits, join, word_bits};
 
 // A half of the number, if it is good.
 pub(crate) fn good_half(number: u32, half: Half) -> Option<HalfWord>
     ensures { result ≡ value_of (part (cell_of number) half) }
 {
     match half {
-        Half::Upper => ((number >> 31) % 2 == 0).then_some(upper_half(number)),
-        Half::Lower => ((number >> 30) % 2 == 0).then_some(lower_half(number)),
+        Half::Upper => ((number >> 31) % 2 == 0).then_some(word_bits(number).upper_half()),
+        Half::Lower => ((number >> 30) % 2 == 0).then_some(word_bits(number).lower_half()),
     }
 }
 
@@ -25,7 +25,7 @@ pub(crate) fn put_half(number: u32, half: Half, value: u32) -> Result<Word, Faul
     let other = half.other();
     let beside = good_half(number, other).ok_or(Fault::Spoiled(other))?;
     match half {
-        Half::Upper => Ok(join(value, beside.get())),
-        Half::Lower => Ok(join(beside.get(), value)),
+        Half::Upper => Ok(join(half_bits(value), beside)),
+        Half::Lower => Ok(join(beside, half_bits(value))),
     }
 }

@@ -10,7 +10,7 @@ ghost use Rattle.stores.specs.ParityRow.{length_row, row_bounded, row_fits, row_
 use super::memory::{Memory, Number};
 use super::{halves, sixteen};
 use store::{CellAddress, Fault, Half, Store};
-use words::{Word, lower_half, upper_half};
+use words::{Word, word_bits};
 
 pub type ParityStore = Memory<u16>;
 
@@ -88,8 +88,9 @@ impl Store for ParityStore {
     }
 
     fn put_whole(&mut self, address: CellAddress, word: u32) -> Result<(), Fault> {
-        self.set_half(address, Half::Upper, upper_half(word).get())?;
-        self.set_half(address, Half::Lower, lower_half(word).get())
+        let word = word_bits(word);
+        self.set_half(address, Half::Upper, word.upper_half().get())?;
+        self.set_half(address, Half::Lower, word.lower_half().get())
     }
 
     fn put_half(&mut self, address: CellAddress, half: Half, value: u32) -> Result<(), Fault> {

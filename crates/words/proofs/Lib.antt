@@ -1,1 +1,2 @@
 mod OctalDigits
+mod BitByBit

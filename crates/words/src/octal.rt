@@ -2,7 +2,7 @@
 ghost use Rattle.std.specs.Prelude.{Some};
 ghost use Rattle.words.specs.Octal.{octal_half, octal_word};
 
-use super::{HalfWord, Word, lower_half, upper_half};
+use super::{HalfWord, Word};
 use std::fmt;
 
 impl fmt::Display for HalfWord {
@@ -19,8 +19,8 @@ impl fmt::Display for Word {
     ghost output = { λ w. Some (octal_word w) };
 
     fn fmt<W: fmt::Write>(&self, f: &mut fmt::Formatter<W>) -> fmt::Result {
-        let upper = upper_half(self.get());
-        let lower = lower_half(self.get());
+        let upper = self.upper_half();
+        let lower = self.lower_half();
         write!(f, "{upper}{lower}")
     }
 }

@@ -1,0 +1,7 @@
+-- Numbers by their bits. `bit_at x i` is bit i of a number x; bit 0 is the lowest.
+use Rattle.std.specs.Prelude.{ℕ, zero, suc, ◌+◌, ◌*◌, ◌^◌}
+
+-- the number of n bits that has f i as its bit i
+unfoldable pub of_bits : ℕ → (ℕ → ℕ) → ℕ
+of_bits zero f = 0
+of_bits (suc n) f = f n * 2 ^ n + of_bits n f

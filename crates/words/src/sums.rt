@@ -1,0 +1,31 @@
+// Sums and differences of words.
+ghost use Rattle.std.specs.Prelude.{◌≡◌, ◌↔◌, ◌==◌, if◌then◌else◌};
+ghost use Rattle.words.specs.Words.{complement};
+ghost use Rattle.words.specs.Sums.{difference, minus_zero, sum};
+
+use super::Word;
+
+// 2^30 − 1.
+const ONES: u32 = 0o7777777777;
+
+impl Word {
+    // This word less another. Only −0 less +0 is −0.
+    pub fn difference(self, v: Word) -> Word
+        ensures value { result ≡ difference self v }
+        ensures same { v ≡ self → result ≡ 0 }
+        ensures minus_zero { (result ≡ minus_zero) ↔ ((self ≡ minus_zero) × (v ≡ 0)) }
+    {
+        let (u, v) = (self.get(), v.get());
+        Word::new(if u < v { u + ONES - v } else { u - v })
+    }
+
+    // This word and another. +0 added leaves every word but −0, which becomes +0; a word and its complement are +0; only −0 and −0 are −0.
+    pub fn sum(self, v: Word) -> Word
+        ensures value { result ≡ sum self v }
+        ensures zero { v ≡ 0 → result ≡ (if self == minus_zero then 0 else self) }
+        ensures opposite { v ≡ complement 30 self → result ≡ 0 }
+        ensures minus_zero { (result ≡ minus_zero) ↔ ((self ≡ minus_zero) × (v ≡ minus_zero)) }
+    {
+        self.difference(v.complement())
+    }
+}
