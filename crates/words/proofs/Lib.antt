@@ -1,2 +1,7 @@
-mod OctalDigits
 mod BitByBit
+mod Extended
+mod OctalDigits
+mod Ordered
+mod Scaling
+mod Selected
+mod Shifted

@@ -1,6 +1,11 @@
 pub mod Bits
+pub mod Characters
 pub mod Double
+pub mod Extension
+pub mod Logic
 pub mod Octal
+pub mod Order
+pub mod Scale
 pub mod Shifts
 pub mod Sums
 pub mod Words

@@ -3,15 +3,22 @@
 #![tactic(auto)]
 
 mod bits;
+mod characters;
 mod double;
+mod extension;
 mod halves;
+mod logic;
 mod octal;
+mod order;
+mod scale;
 mod shifts;
 mod sums;
 
 pub use bits::Bits;
+pub use characters::packed;
 pub use double::DoubleWord;
 pub use halves::{half_bits, join, word_bits};
+pub use scale::Scaled;
 
 pub type Word = Bits<30>;
 

@@ -22,7 +22,7 @@ fn lowest<const N: u32>(x: u64) -> u64
 }
 
 // A number without its lowest bits, as many as the count.
-#[tactic(auto, using(crate::proofs::BitByBit::quotient_capped))]
+#[tactic(auto, using(crate::proofs::Shifted::quotient_capped))]
 fn without_lowest<const N: u32>(x: u64, count: u32) -> u64
     requires number { x < 2 ^ N }
     requires width { N ≤ 60 }
@@ -31,7 +31,7 @@ fn without_lowest<const N: u32>(x: u64, count: u32) -> u64
     x >> count.min(63)
 }
 
-#[tactic(auto, using(crate::proofs::BitByBit::shifted_right_is))]
+#[tactic(auto, using(crate::proofs::Shifted::shifted_right_is))]
 fn shifted_right<const N: u32>(x: u64, count: u32) -> u64
     requires number { x < 2 ^ N }
     requires width { N ≤ 60 }
@@ -42,7 +42,7 @@ fn shifted_right<const N: u32>(x: u64, count: u32) -> u64
 }
 
 // Where the sign is 1, every bit is turned over before and after, so that zeros come in for ones.
-#[tactic(auto, using(crate::proofs::BitByBit::shifted_positive, crate::proofs::BitByBit::shifted_negative))]
+#[tactic(auto, using(crate::proofs::Shifted::shifted_positive, crate::proofs::Shifted::shifted_negative))]
 fn shifted_right_with_sign<const N: u32>(x: u64, count: u32) -> u64
     requires number { x < 2 ^ N }
     requires width { (0 < N) × (N ≤ 60) }
@@ -56,7 +56,7 @@ fn shifted_right_with_sign<const N: u32>(x: u64, count: u32) -> u64
     }
 }
 
-#[tactic(auto, using(crate::proofs::BitByBit::turned_is))]
+#[tactic(auto, using(crate::proofs::Shifted::turned_is))]
 fn turned_left<const N: u32>(x: u64, count: u32) -> u64
     requires number { x < 2 ^ N }
     requires width { (0 < N) × (N ≤ 60) }

@@ -5,8 +5,8 @@ ghost use Rattle.words.specs.Sums.{difference, minus_zero, sum};
 
 use super::Word;
 
-// 2^30 − 1.
-const ONES: u32 = 0o7777777777;
+// Thirty ones, 2^30 − 1: as a word, −0.
+pub(crate) const ONES: u32 = 0o7777777777;
 
 impl Word {
     // This word less another. Only −0 less +0 is −0.

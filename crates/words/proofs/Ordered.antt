@@ -1,0 +1,41 @@
+-- With the sign bits turned over, numbers of 60 bits lie in the order of what they stand for.
+use Rattle.std.proofs.Common.{ℕ, suc, ◌≡◌, ◌+◌, ◌-◌, ◌^◌, ◌<◌, nat_lt, arith, ap, ◌∙◌, ⊎_elim, lt-ltb, le-ltb, ne_eqb, zero-add}
+use Rattle.std.proofs.lemmas.Bool.{cases_lt}
+use Rattle.std.proofs.lemmas.Int.{ints}
+use Rattle.std.proofs.lemmas.Nat.{xor_block, xor_comm}
+use Rattle.std.specs.Int.RustNames.{bit_xor}
+use Rattle.std.specs.Prelude.{pos, negsuc}
+use Rattle.words.specs.Order.{Value, integer, minus_zero, value, is_below, less}
+
+-- a sign bit of 0 and one of 1, turned over
+positive_turned : (x : ℕ) → x < 2 ^ 59 → bit_xor x (2 ^ 59) ≡ 2 ^ 59 + x
+positive_turned x positive =
+    ap (λ y. bit_xor y (2 ^ 59)) (omega arith) ∙ xor_block 59 0 1 x 0 positive (omega arith) ∙ ap (λ y. 2 ^ 59 + y) (xor_comm x 0)
+
+negative_turned : (x : ℕ) → x < 2 ^ 59 → bit_xor (2 ^ 59 + x) (2 ^ 59) ≡ x
+negative_turned x small =
+    ap (λ y. bit_xor y (2 ^ 59)) (omega arith) ∙ xor_block 59 1 1 x 0 small (omega arith) ∙ ap (λ y. 0 + y) (xor_comm x 0) ∙ zero-add x
+
+-- the three kinds of values, and what the number is with its sign bit turned over
+by_value : (P : ℕ → Value → Type 0) → ((a : ℕ) → P (2 ^ 59 + a) (integer (pos a))) → P (2 ^ 59 - 1) minus_zero → ((k : ℕ) → k < 2 ^ 59 - 1 → P (2 ^ 59 - 2 - k) (integer (negsuc k))) →
+    (x : ℕ) → x < 2 ^ 60 → P (bit_xor x (2 ^ 59)) (value 60 x)
+by_value P whole none negated x small = ⊎_elim
+    (λ positive. rw (positive_turned x positive, ne_eqb x (2 ^ 60 - 1) (λ e. omega arith), lt-ltb x (2 ^ 59) positive) (whole x))
+    (λ negative. ⊎_elim
+    (λ integral.
+    let k = 2 ^ 60 - 2 - x in
+    let below = 2 ^ 59 - 2 - k in
+    let same : x ≡ 2 ^ 59 + below = omega arith in
+    let turned : bit_xor x (2 ^ 59) ≡ below = ap (λ y. bit_xor y (2 ^ 59)) same ∙ negative_turned below (omega arith) in
+    let size : 2 ^ 60 - 1 - x ≡ suc k = omega arith in
+    rw (turned, ne_eqb x (2 ^ 60 - 1) (λ e. omega arith), le-ltb x (2 ^ 59) negative, size) (negated k (omega arith)))
+    (λ ones. let same : x ≡ 2 ^ 60 - 1 = omega arith in rw same none)
+    (cases_lt x (2 ^ 60 - 1)))
+    (cases_lt x (2 ^ 59))
+
+pub less_is : (x y : ℕ) → x < 2 ^ 60 → y < 2 ^ 60 → nat_lt (bit_xor x (2 ^ 59)) (bit_xor y (2 ^ 59)) ≡ less x y
+less_is x y p q = by_value (λ s v. nat_lt s (bit_xor y (2 ^ 59)) ≡ is_below v (value 60 y))
+    (λ a. by_value (λ t w. nat_lt (2 ^ 59 + a) t ≡ is_below (integer (pos a)) w) (λ b. grind (arith, ints)) (grind (arith, ints)) (λ l low. grind (arith, ints)) y q)
+    (by_value (λ t w. nat_lt (2 ^ 59 - 1) t ≡ is_below minus_zero w) (λ b. grind (arith, ints)) (grind (arith, ints)) (λ l low. grind (arith, ints)) y q)
+    (λ k low. by_value (λ t w. nat_lt (2 ^ 59 - 2 - k) t ≡ is_below (integer (negsuc k)) w) (λ b. grind (arith, ints)) (grind (arith, ints)) (λ l under. grind (arith, ints)) y q)
+    x p

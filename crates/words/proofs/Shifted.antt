@@ -1,0 +1,80 @@
+-- Shifts by quotients, and turns, are what their definitions say of each bit.
+use Rattle.std.proofs.Common.{ℕ, suc, ◌≡◌, ◌≢◌, ◌+◌, ◌-◌, ◌*◌, ◌/◌, ◌%◌, ◌^◌, ◌<◌, ◌≤◌, nat_lt, if◌then◌else◌, arith, lt-ltb, le-ltb, min, max, ap, sym, ◌∙◌, pow-suc, ⊎_elim}
+use Rattle.std.proofs.lemmas.Bool.{cases_lt}
+use Rattle.std.proofs.lemmas.Nat.{pow_pos, mod_below, shr_le, le-div}
+use Rattle.std.proofs.Math.Nat.{mod-eq_of_lt, add-mod_left, div-eq_of_lt, pow-le-pow_right}
+use Rattle.std.proofs.lemmas.Nat.Bits.{bit_at_cat_low, bit_at_cat_high, bit_at_above, bit_at-zero, bit_at_or}
+use Rattle.std.specs.Int.{bit_at}
+use Rattle.std.specs.Int.RustNames.{bit_or}
+use Rattle.words.specs.Shifts.{shifted_right, shifted_right_with_sign, turned_left}
+use Rattle.words.proofs.BitByBit.{quotient_bit, remainder_bit, made_of_bits, turned_twice, top_bit_zero}
+
+module _ (n x c : ℕ) (small : x < 2 ^ n) where
+  -- a quotient is a shift to the right
+  pub right_bit : (i : ℕ) → bit_at (x / 2 ^ c) i ≡ (if nat_lt (i + c) n then bit_at x (i + c) else 0)
+  right_bit i = ⊎_elim
+      (λ inside. rw (lt-ltb (i + c) n inside) (quotient_bit x c i))
+      (λ past. rw (le-ltb (i + c) n past) (quotient_bit x c i ∙ bit_at_above x n (i + c) small past))
+      (cases_lt (i + c) n)
+
+pub shifted_right_is : (n x c : ℕ) → x < 2 ^ n → x / 2 ^ c ≡ shifted_right n x c
+shifted_right_is n x c small = made_of_bits n (x / 2 ^ c) _ (omega (arith, shr_le x c)) (λ i _. right_bit n x c small i)
+
+twice : (n : ℕ) → 0 < n → 2 ^ n ≡ 2 ^ (n - 1) * 2
+twice n some = let next : n ≡ suc (n - 1) = omega arith in ap (λ k. 2 ^ k) next ∙ pow-suc 2 (n - 1)
+
+-- so is a shift with the sign coming in, where that is 0
+positive_bit : (n x c i : ℕ) → 2 * x < 2 ^ n → i < n → bit_at (x / 2 ^ c) i ≡ bit_at x (min (i + c) (n - 1))
+positive_bit n x c i positive within = ⊎_elim
+    (λ inside. quotient_bit x c i ∙ ap (bit_at x) (omega arith))
+    (λ past. quotient_bit x c i ∙ top_bit_zero n x (i + c) positive (omega arith) ∙ sym (top_bit_zero n x (min (i + c) (n - 1)) positive (omega arith)))
+    (cases_lt (i + c) n)
+
+pub shifted_positive : (n x c : ℕ) → 0 < n → x / 2 ^ (n - 1) ≡ 0 → x < 2 ^ n → x / 2 ^ c ≡ shifted_right_with_sign n x c
+shifted_positive n x c some zero_bit small =
+    let low : x < 2 ^ (n - 1) = ⊎_elim (λ below. below) (λ above. absurd (omega (arith, zero_bit, le-div 1 x (2 ^ (n - 1)) (pow_pos (n - 1)) (omega arith)))) (cases_lt x (2 ^ (n - 1))) in
+    let positive : 2 * x < 2 ^ n = omega (arith, twice n some) in
+    made_of_bits n (x / 2 ^ c) _ (omega (arith, shr_le x c)) (λ i within. positive_bit n x c i positive within)
+
+-- and where it is 1, with every bit turned over before and after
+pub shifted_negative : (n x c : ℕ) → 0 < n → x / 2 ^ (n - 1) ≢ 0 → x < 2 ^ n → 2 ^ n - 1 - (2 ^ n - 1 - x) / 2 ^ c ≡ shifted_right_with_sign n x c
+shifted_negative n x c some one_bit small =
+    let negative : 2 ^ (n - 1) ≤ x = ⊎_elim (λ low. absurd (one_bit (div-eq_of_lt low))) (λ high. high) (cases_lt x (2 ^ (n - 1))) in
+    let y = 2 ^ n - 1 - x in
+    let positive : 2 * y < 2 ^ n = omega (arith, twice n some) in
+    made_of_bits n (2 ^ n - 1 - y / 2 ^ c) _ (omega (arith, pow_pos n)) (λ i within.
+    turned_twice n (y / 2 ^ c) n x i (min (i + c) (n - 1)) (omega (arith, shr_le y c)) within small (omega arith) (positive_bit n y c i positive within))
+
+-- a turn by u, where u and d make n: what leaves 64 bits at the top is not looked at
+turned_bit : (n x u d i : ℕ) → u + d ≡ n → u < n → n ≤ 64 → x < 2 ^ n → i < n → max (bit_at (x * 2 ^ u % 2 ^ 64) i) (bit_at (x / 2 ^ d) i) ≡ bit_at x ((i + (n - u)) % n)
+turned_bit n x u d i split inside fits small within =
+    let up : bit_at (x * 2 ^ u % 2 ^ 64) i ≡ bit_at (x * 2 ^ u + 0) i = remainder_bit (x * 2 ^ u) 64 i (omega arith) ∙ ap (λ y. bit_at y i) (omega arith) in
+    ⊎_elim
+    (λ under.
+    let place : i + d ≡ (i + (n - u)) % n = ap (λ k. i + k) (omega arith) ∙ sym (mod-eq_of_lt (omega arith)) in
+    let none : bit_at (x * 2 ^ u % 2 ^ 64) i ≡ 0 = up ∙ bit_at_cat_low x u 0 i under ∙ bit_at-zero i in
+    omega (arith, none, quotient_bit x d i, ap (bit_at x) place))
+    (λ over.
+    let place : i - u ≡ (i + (n - u)) % n = sym (mod-eq_of_lt (omega arith)) ∙ sym (add-mod_left n (i - u)) ∙ ap (λ k. k % n) (omega arith) in
+    let none : bit_at (x / 2 ^ d) i ≡ 0 = quotient_bit x d i ∙ bit_at_above x n (i + d) small (omega arith) in
+    omega (arith, none, up, bit_at_cat_high x u 0 i (pow_pos u) over, ap (bit_at x) place))
+    (cases_lt i u)
+
+pub turned_is : (n x c : ℕ) → 0 < n → n ≤ 60 → x < 2 ^ n → bit_or (x * 2 ^ (c % n) % 2 ^ 64) (x / 2 ^ (n - c % n)) % 2 ^ n ≡ turned_left n x c
+turned_is n x c some fits small =
+    let u = c % n in
+    let inside : u < n = mod_below c n some in
+    let both = bit_or (x * 2 ^ u % 2 ^ 64) (x / 2 ^ (n - u)) in
+    made_of_bits n (both % 2 ^ n) _ (mod_below both (2 ^ n) (pow_pos n)) (λ i within.
+    remainder_bit both n i within ∙ bit_at_or (x * 2 ^ u % 2 ^ 64) (x / 2 ^ (n - u)) i
+    ∙ turned_bit n x u (n - u) i (omega arith) inside (omega arith) small within)
+
+-- a number of 60 bits at the most has none left after a shift by 63, nor after one by more
+below_all : (n k x : ℕ) → n ≤ k → x < 2 ^ n → x < 2 ^ k
+below_all n k x wide small = omega (arith, pow-le-pow_right {n = 2} (omega arith) wide)
+
+pub quotient_capped : (n x c : ℕ) → n ≤ 60 → x < 2 ^ n → x / 2 ^ min c 63 ≡ x / 2 ^ c
+quotient_capped n x c wide small = ⊎_elim
+    (λ few. let all : min c 63 ≡ c = omega arith in ap (λ k. x / 2 ^ k) all)
+    (λ many. let most : min c 63 ≡ 63 = omega arith in ap (λ k. x / 2 ^ k) most ∙ div-eq_of_lt (below_all n 63 x (omega arith) small) ∙ sym (div-eq_of_lt (below_all n c x (omega arith) small)))
+    (cases_lt c 63)
