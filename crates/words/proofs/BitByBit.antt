@@ -24,7 +24,7 @@ made_of_bits (suc n) x f small same =
     sym (shr_split x n) ∙ ap (λ b. b * 2 ^ n + x % 2 ^ n) top ∙ ap (λ y. f n * 2 ^ n + y) low
 
 -- and has them as its bits
-of_bits_fit : (n : ℕ) (f : ℕ → ℕ) → ((i : ℕ) → f i < 2) → of_bits n f < 2 ^ n
+pub of_bits_fit : (n : ℕ) (f : ℕ → ℕ) → ((i : ℕ) → f i < 2) → of_bits n f < 2 ^ n
 unfolding of_bits
 of_bits_fit zero f bits = omega arith
 of_bits_fit (suc n) f bits = omega (arith, mul-le (f n) (2 ^ n) 1 (2 ^ n) (omega (arith, bits n)) (omega arith), of_bits_fit n f bits, pow-suc 2 n)

@@ -1,13 +1,13 @@
 -- The scale factor: how turns add up, and that 28 turns are enough.
 use Rattle.std.proofs.Common.{ℕ, zero, suc, ◌≡◌, ◌+◌, ◌-◌, ◌%◌, ◌^◌, ◌<◌, ◌≤◌, ◌⊎◌, Bool, true, false, ◌==◌, if◌then◌else◌, arith, refl, ap, sym, subst, ◌∙◌, ⊎_elim, inl, inr}
-use Rattle.std.proofs.lemmas.Bool.{cases_lt, cases_Bool, eqb-true, or_cases, false≢true}
+use Rattle.std.proofs.lemmas.Bool.{cases_lt, cases_Bool, eqb-true, or_cases, false≢true, false_from_ne_true}
 use Rattle.std.proofs.lemmas.Nat.Bits.{bit_at-lt, bit_at-zero, bit_at_ones, same_from_bits_below}
 use Rattle.std.specs.Int.{bit_at}
 use Rattle.words.specs.Bits.{of_bits}
 use Rattle.words.specs.Scale.{is_zero, top_bits_agree, turns_within, scale_factor}
 use Rattle.words.specs.Shifts.{turned_left}
 use Rattle.words.specs.Sums.{minus_zero}
-use Rattle.words.proofs.BitByBit.{made_of_bits, bit_of_bits, same_bits}
+use Rattle.words.proofs.BitByBit.{made_of_bits, of_bits_fit, bit_of_bits, same_bits}
 
 turned_bit : (x c i : ℕ) → i < 30 → bit_at (turned_left 30 x c) i ≡ bit_at x ((i + (30 - c % 30)) % 30)
 turned_bit x c i within = bit_of_bits 30 (λ j. bit_at x ((j + (30 - c % 30)) % 30)) i (λ j. bit_at-lt x ((j + (30 - c % 30)) % 30)) within
@@ -15,12 +15,12 @@ turned_bit x c i within = bit_of_bits 30 (λ j. bit_at x ((j + (30 - c % 30)) % 
 pub turned_by_none : (x : ℕ) → x < 2 ^ 30 → turned_left 30 x 0 ≡ x
 turned_by_none x small = sym (made_of_bits 30 x (λ i. bit_at x ((i + (30 - 0 % 30)) % 30)) small (λ i within. ap (bit_at x) (omega arith)))
 
-pub turned_again : (x c : ℕ) → turned_left 30 (turned_left 30 x c) 1 ≡ turned_left 30 x (c + 1)
-turned_again x c = same_bits 30
-    (λ i. bit_at (turned_left 30 x c) ((i + (30 - 1 % 30)) % 30))
-    (λ i. bit_at x ((i + (30 - (c + 1) % 30)) % 30))
-    (λ i. bit_at-lt (turned_left 30 x c) ((i + (30 - 1 % 30)) % 30))
-    (λ i within. turned_bit x c ((i + (30 - 1 % 30)) % 30) (omega arith) ∙ ap (bit_at x) (omega arith))
+pub turned_again : (x c d : ℕ) → turned_left 30 (turned_left 30 x c) d ≡ turned_left 30 x (c + d)
+turned_again x c d = same_bits 30
+    (λ i. bit_at (turned_left 30 x c) ((i + (30 - d % 30)) % 30))
+    (λ i. bit_at x ((i + (30 - (c + d) % 30)) % 30))
+    (λ i. bit_at-lt (turned_left 30 x c) ((i + (30 - d % 30)) % 30))
+    (λ i within. turned_bit x c ((i + (30 - d % 30)) % 30) (omega arith) ∙ ap (bit_at x) (omega arith))
 
 -- the turns of a word with all bits the same, and of one with a difference at the top
 all_zeros : (most : ℕ) → turns_within most 0 ≡ most
@@ -101,14 +101,45 @@ by_tests true q x y z w first second third = first refl
 by_tests false true x y z w first second third = second refl refl
 by_tests false false x y z w first second third = third refl refl
 
+-- where both are there, no turn makes the bits the same
+mixed_after : (a : ℕ) → a < 2 ^ 30 → is_zero a ≡ false → top_bits_agree a ≡ true → Agree 28 (turned_left 30 a 1) → ⊥
+mixed_after a small mixed agree after = ⊎_elim
+    (λ plus. false≢true (sym mixed ∙ ap is_zero plus))
+    (λ minus. false≢true (sym mixed ∙ ap is_zero minus))
+    (all_same a small (agree_before 28 a agree after))
+
 one_turn_more : (a : ℕ) → a < 2 ^ 30 → is_zero a ≡ false → top_bits_agree a ≡ true → scale_factor a ≡ suc (scale_factor (turned_left 30 a 1))
 one_turn_more a small mixed agree = ⊎_elim
     (λ same. one_turn 27 a agree ∙ ap suc (sym same))
-    (λ after. absurd (⊎_elim
-    (λ plus. false≢true (sym mixed ∙ ap is_zero plus))
-    (λ minus. false≢true (sym mixed ∙ ap is_zero minus))
-    (all_same a small (agree_before 28 a agree after))))
+    (λ after. absurd (mixed_after a small mixed agree after))
     (enough 27 (turned_left 30 a 1) (omega arith))
+
+-- a turn makes no +0 and no −0 of other words
+turned_fits : (a : ℕ) → turned_left 30 a 1 < 2 ^ 30
+turned_fits a = of_bits_fit 30 (λ i. bit_at a ((i + (30 - 1 % 30)) % 30)) (λ i. bit_at-lt a ((i + (30 - 1 % 30)) % 30))
+
+still_mixed : (a : ℕ) → a < 2 ^ 30 → is_zero a ≡ false → top_bits_agree a ≡ true → is_zero (turned_left 30 a 1) ≡ false
+still_mixed a small mixed agree = false_from_ne_true (is_zero (turned_left 30 a 1)) (λ same.
+    mixed_after a small mixed agree
+    (of_zeros (Agree 28) (λ i within top. bit_at-zero i) (λ i within top. bit_at_ones 30 i within) (turned_left 30 a 1) same))
+
+-- after the turns the highest two bits differ
+differ_after : (k a : ℕ) → a < 2 ^ 30 → is_zero a ≡ false → scale_factor a ≡ k → top_bits_agree (turned_left 30 a k) ≡ false
+differ_after zero a small mixed turns = ⊎_elim
+    (λ agree. absurd (omega (arith, turns, one_turn 27 a agree)))
+    (λ differ. ap top_bits_agree (turned_by_none a small) ∙ differ)
+    (cases_Bool (top_bits_agree a))
+differ_after (suc k) a small mixed turns = ⊎_elim
+    (λ agree.
+    let next = turned_left 30 a 1 in
+    let fewer : scale_factor next ≡ k = omega (arith, turns, one_turn_more a small mixed agree) in
+    let all : turned_left 30 next k ≡ turned_left 30 a (suc k) = turned_again a 1 k ∙ (let count : 1 + k ≡ suc k = omega arith in ap (turned_left 30 a) count) in
+    ap top_bits_agree (sym all) ∙ differ_after k next (turned_fits a) (still_mixed a small mixed agree) fewer)
+    (λ differ. absurd (omega (arith, turns, no_turn 27 a differ)))
+    (cases_Bool (top_bits_agree a))
+
+pub scaled_differ : (a w k : ℕ) → a < 2 ^ 30 → is_zero a ≡ false → k ≡ scale_factor a → w ≡ turned_left 30 a k → top_bits_agree w ≡ false
+scaled_differ a w k small mixed turns turned = ap top_bits_agree turned ∙ differ_after k a small mixed (sym turns)
 
 -- after c turns that brought a word a to the top: one turn more, none, and no turn left
 module _ (c a total : ℕ) (so_far : c + turns_within (28 - c) a ≡ total) where

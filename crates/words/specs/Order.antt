@@ -1,14 +1,15 @@
--- What a number of n bits stands for in ones complement, and the order of 60-bit numbers by that.
-use Rattle.std.specs.Prelude.{ℕ, ◌-◌, ◌^◌, Bool, false, not, ◌==◌, nat_lt, if◌then◌else◌, ℤ, pos, neg_ℤ, int_lt}
+-- The order of 60-bit numbers by what they stand for.
+use Rattle.std.specs.Prelude.{ℕ, ◌-◌, ◌^◌, Bool, false, not, ◌==◌, if◌then◌else◌, ℤ, pos, int_lt}
+use Rattle.words.specs.Sums.{integer_of}
 
 -- an integer, or −0
 pub data Value : Type 0 where
   integer : ℤ → Value
   minus_zero : Value
 
--- all ones are −0; with a highest bit of 0 a number is itself, and with one of 1 it is less than 0 by what its complement is
+-- all ones are −0
 abbrev pub value : ℕ → ℕ → Value
-value n x = if x == 2 ^ n - 1 then minus_zero else (if nat_lt x (2 ^ (n - 1)) then integer (pos x) else integer (neg_ℤ (pos (2 ^ n - 1 - x))))
+value n x = if x == 2 ^ n - 1 then minus_zero else integer (integer_of n x)
 
 -- −0 has its own place, just below +0
 abbrev pub is_below : Value → Value → Bool

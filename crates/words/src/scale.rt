@@ -1,5 +1,5 @@
 // The scale factor shift.
-ghost use Rattle.std.specs.Prelude.{◌≡◌, true, suc, if◌then◌else◌};
+ghost use Rattle.std.specs.Prelude.{◌≡◌, true, false, suc, if◌then◌else◌};
 ghost use Rattle.words.specs.Scale.{is_zero, top_bits_agree, scale_factor};
 ghost use Rattle.words.specs.Shifts.{turned_left};
 
@@ -29,11 +29,12 @@ impl Word {
     }
 
     // Turns the word to the left until its highest two bits differ; one whose bits are all the same it leaves, and counts 28.
-    #[tactic(auto, using(crate::proofs::Scaling::rule, crate::proofs::Scaling::zero_scaled, crate::proofs::Scaling::zero_turned, crate::proofs::Scaling::turned_by_none, crate::proofs::Scaling::turned_again, crate::proofs::Scaling::turned_on, crate::proofs::Scaling::turned_all))]
+    #[tactic(auto, using(crate::proofs::Scaling::rule, crate::proofs::Scaling::zero_scaled, crate::proofs::Scaling::zero_turned, crate::proofs::Scaling::turned_by_none, crate::proofs::Scaling::turned_again, crate::proofs::Scaling::turned_on, crate::proofs::Scaling::turned_all, crate::proofs::Scaling::scaled_differ))]
     pub fn scaled(self) -> Scaled
         ensures count { result.count ≡ scale_factor self }
         ensures word { result.word ≡ turned_left 30 self result.count }
         ensures zero { is_zero self ≡ true → result.word ≡ self }
+        ensures differ { is_zero self ≡ false → top_bits_agree result.word ≡ false }
         ensures rule { scale_factor self ≡ (if is_zero self then 28 else (if top_bits_agree self then suc (scale_factor (turned_left 30 self 1)) else 0)) }
     {
         if is_zero(self.get()) {

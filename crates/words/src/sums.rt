@@ -1,7 +1,7 @@
 // Sums and differences of words.
-ghost use Rattle.std.specs.Prelude.{◌≡◌, ◌↔◌, ◌==◌, if◌then◌else◌};
+ghost use Rattle.std.specs.Prelude.{◌≡◌, ◌<◌, ◌^◌, ◌↔◌, ◌==◌, ◌+ℤ◌, ◌-ℤ◌, nat_abs, if◌then◌else◌};
 ghost use Rattle.words.specs.Words.{complement};
-ghost use Rattle.words.specs.Sums.{difference, minus_zero, sum};
+ghost use Rattle.words.specs.Sums.{difference, integer_of, minus_zero, sum};
 
 use super::Word;
 
@@ -14,6 +14,7 @@ impl Word {
         ensures value { result ≡ difference self v }
         ensures same { v ≡ self → result ≡ 0 }
         ensures minus_zero { (result ≡ minus_zero) ↔ ((self ≡ minus_zero) × (v ≡ 0)) }
+        ensures integers { nat_abs (integer_of 30 self -ℤ integer_of 30 v) < 2 ^ 29 → integer_of 30 result ≡ integer_of 30 self -ℤ integer_of 30 v }
     {
         let (u, v) = (self.get(), v.get());
         Word::new(if u < v { u + ONES - v } else { u - v })
@@ -25,6 +26,7 @@ impl Word {
         ensures zero { v ≡ 0 → result ≡ (if self == minus_zero then 0 else self) }
         ensures opposite { v ≡ complement 30 self → result ≡ 0 }
         ensures minus_zero { (result ≡ minus_zero) ↔ ((self ≡ minus_zero) × (v ≡ minus_zero)) }
+        ensures integers { nat_abs (integer_of 30 self +ℤ integer_of 30 v) < 2 ^ 29 → integer_of 30 result ≡ integer_of 30 self +ℤ integer_of 30 v }
     {
         self.difference(v.complement())
     }

@@ -1,0 +1,24 @@
+// Worked figures: what the definitions of the machine give in cases that were worked by hand. The checker computes each.
+#![tactic(auto)]
+
+ghost use Rattle.std.specs.Prelude.{◌≡◌, true, false};
+ghost use Rattle.words.specs.Sums.{difference, sum};
+ghost use Rattle.words.specs.Shifts.{shifted_right_with_sign, turned_left};
+ghost use Rattle.words.specs.Scale.{scale_factor};
+ghost use Rattle.stores.specs.Parity.{half_of};
+
+// Does nothing: its contract is all there is to it.
+pub fn worked_figures()
+    ensures three_less_five { difference 3 5 ≡ 0o7777777775 }
+    ensures five_and_minus_five { sum 5 0o7777777772 ≡ 0 }
+    ensures minus_zero_twice { sum 0o7777777777 0o7777777777 ≡ 0o7777777777 }
+    ensures largest_and_one { sum 0o3777777777 1 ≡ 0o4000000000 }
+    ensures scale_factor_of_one { scale_factor 1 ≡ 28 }
+    ensures one_scaled { turned_left 30 1 (scale_factor 1) ≡ 0o2000000000 }
+    ensures sign_filled { shifted_right_with_sign 30 0o4000000000 29 ≡ 0o7777777777 }
+    ensures spoiled_zero { half_of 0 ≡ record { value = 0; good = false } }
+    ensures spoiled_three { half_of 3 ≡ record { value = 3; good = false } }
+    ensures good_zero { half_of 32768 ≡ record { value = 0; good = true } }
+    ensures good_three { half_of 32771 ≡ record { value = 3; good = true } }
+{
+}

@@ -1,0 +1,33 @@
+// Answers questions of arithmetic: each line of standard input is written to standard output with its answer. What the
+// functions of `words` answer is compared there with vectors that were worked out bit by bit, by another program.
+#![tactic(auto)]
+
+mod answer;
+mod arguments;
+mod question;
+
+use question::answer;
+use std::process::ExitCode;
+
+// Answers each line, up to one that asks nothing.
+fn run(rt: &HostRuntime) -> anyhow::Result<bool> {
+    let text = std::io::read_to_string(rt.alloc(), rt.stdin())?;
+    for line in text.as_str().lines() {
+        match answer(line) {
+            Some(answer) => println!(rt; "{line} -> {answer}")?,
+            None => return Ok(false),
+        }
+    }
+    Ok(true)
+}
+
+fn main(rt: HostRuntime) -> ExitCode {
+    match run(&rt) {
+        Ok(true) => ExitCode::SUCCESS,
+        Ok(false) => ExitCode::FAILURE,
+        Err(error) => {
+            let _ = eprintln!(rt; "{error}");
+            ExitCode::FAILURE
+        }
+    }
+}
