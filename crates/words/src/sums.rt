@@ -12,7 +12,7 @@ impl Word {
     // This word less another. Only −0 less +0 is −0.
     pub fn difference(self, v: Word) -> Word
         ensures value { result ≡ difference self v }
-        ensures same { v ≡ self → result ≡ 0 }
+        ensures itself { v ≡ self → result ≡ 0 }
         ensures minus_zero { (result ≡ minus_zero) ↔ ((self ≡ minus_zero) × (v ≡ 0)) }
         ensures integers { nat_abs (integer_of 30 self -ℤ integer_of 30 v) < 2 ^ 29 → integer_of 30 result ≡ integer_of 30 self -ℤ integer_of 30 v }
     {
@@ -20,10 +20,12 @@ impl Word {
         Word::new(if u < v { u + ONES - v } else { u - v })
     }
 
-    // This word and another. +0 added leaves every word but −0, which becomes +0; a word and its complement are +0; only −0 and −0 are −0.
+    // This word and another, in either order. −0 added leaves every word, +0 every one but −0; a word and its complement are +0; only −0 and −0 are −0.
     pub fn sum(self, v: Word) -> Word
         ensures value { result ≡ sum self v }
-        ensures zero { v ≡ 0 → result ≡ (if self == minus_zero then 0 else self) }
+        ensures commutes { result ≡ sum v self }
+        ensures neutral { v ≡ minus_zero → result ≡ self }
+        ensures plus_zero { v ≡ 0 → result ≡ (if self == minus_zero then 0 else self) }
         ensures opposite { v ≡ complement 30 self → result ≡ 0 }
         ensures minus_zero { (result ≡ minus_zero) ↔ ((self ≡ minus_zero) × (v ≡ minus_zero)) }
         ensures integers { nat_abs (integer_of 30 self +ℤ integer_of 30 v) < 2 ^ 29 → integer_of 30 result ≡ integer_of 30 self +ℤ integer_of 30 v }
