@@ -1,5 +1,5 @@
-# `make demo` builds the console and plays `examples/store.script`; `make test` is the gate.
-.PHONY: demo test
+# `make demo` builds the console and plays `examples/store.script`; `make test` is the gate; `make vectors` writes the vectors of arithmetic anew.
+.PHONY: demo test vectors
 
 demo:
 	@mkdir -p target
@@ -8,3 +8,7 @@ demo:
 
 test:
 	@.ci/run
+
+vectors:
+	@python3 tools/vectors.py questions > crates/vectors/stdin
+	@python3 tools/vectors.py answers > crates/vectors/stdout

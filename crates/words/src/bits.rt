@@ -2,6 +2,7 @@
 ghost use Rattle.std.specs.Prelude.{◌≡◌, ℕ, ◌%◌, ◌^◌, ◌<◌, ◌≤◌, ◌-◌};
 ghost use Rattle.words.specs.Words.{complement};
 
+use super::numbers::{lowest, ones};
 use std::marker::Model;
 
 // A number of N bits, so below 2^N.
@@ -20,22 +21,6 @@ impl<const N: u32> Model for Bits<N> {
     ghost inverse = { λ n. record { number = n } };
 }
 
-// The lowest N bits of a number; from 32 on these are all.
-fn lowest<const N: u32>(number: u32) -> u32
-    ensures value { result ≡ number % 2 ^ N }
-    ensures small { result < 2 ^ N }
-{
-    if N < 32 { number % (1 << N) } else { number }
-}
-
-// The number of N ones.
-const fn ones<const N: u32>() -> u32
-    requires { N ≤ 32 }
-    ensures { result ≡ 2 ^ N - 1 }
-{
-    if N < 32 { (1 << N) - 1 } else { u32::MAX }
-}
-
 impl<const N: u32> Bits<N> {
     // The lowest N bits of a number.
     pub(crate) fn new(number: u32) -> Bits<N>
@@ -43,7 +28,7 @@ impl<const N: u32> Bits<N> {
         ensures { result ≡ number % 2 ^ N }
     {
         Bits {
-            number: lowest::<N>(number),
+            number: lowest::<N>(number.into()) as u32,
         }
     }
 
@@ -60,7 +45,7 @@ impl<const N: u32> Bits<N> {
         ensures { result ≡ complement N self.entry }
     {
         Bits {
-            number: ones::<N>() - self.number,
+            number: (ones::<N>() - u64::from(self.number)) as u32,
         }
     }
 }

@@ -3,6 +3,7 @@ ghost use Rattle.std.specs.Prelude.{◌≡◌, ℕ, ◌%◌, ◌^◌, ◌<◌};
 ghost use Rattle.words.specs.Double.{over, upper_word, lower_word};
 
 use super::Word;
+use super::numbers::lowest;
 use std::marker::Model;
 
 // A number of 60 bits: an upper word over a lower one.
@@ -27,7 +28,7 @@ impl DoubleWord {
         ensures { result ≡ number % 2 ^ 60 }
     {
         DoubleWord {
-            number: number % (1 << 60),
+            number: lowest::<60>(number),
         }
     }
 
@@ -50,7 +51,7 @@ impl DoubleWord {
     pub fn lower(self) -> Word
         ensures { result ≡ lower_word self }
     {
-        Word::new((self.number % (1 << 30)) as u32)
+        Word::new(lowest::<30>(self.number) as u32)
     }
 }
 

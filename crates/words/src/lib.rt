@@ -8,6 +8,7 @@ mod double;
 mod extension;
 mod halves;
 mod logic;
+mod numbers;
 mod octal;
 mod order;
 mod scale;

@@ -3,23 +3,8 @@
 ghost use Rattle.std.specs.Prelude.{◌≡◌, ◌/◌, ◌%◌, ◌-◌, ◌^◌, ◌<◌, ◌≤◌};
 ghost use Rattle.words.specs.Shifts.{shifted_right, shifted_right_with_sign, turned_left};
 
+use super::numbers::{lowest, ones};
 use super::{DoubleWord, Word};
-
-// The number of N ones.
-const fn ones<const N: u32>() -> u64
-    requires { N ≤ 60 }
-    ensures { result ≡ 2 ^ N - 1 }
-{
-    (1 << N) - 1
-}
-
-// The lowest N bits of a number.
-fn lowest<const N: u32>(x: u64) -> u64
-    requires { N ≤ 60 }
-    ensures { result ≡ x % 2 ^ N }
-{
-    x % (1 << N)
-}
 
 // A number without its lowest bits, as many as the count.
 #[tactic(auto, using(crate::proofs::Shifted::quotient_capped))]
