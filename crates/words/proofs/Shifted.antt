@@ -11,7 +11,7 @@ use Rattle.words.proofs.BitByBit.{quotient_bit, remainder_bit, made_of_bits, tur
 
 module _ (n x c : ℕ) (small : x < 2 ^ n) where
   -- a quotient is a shift to the right
-  pub right_bit : (i : ℕ) → bit_at (x / 2 ^ c) i ≡ (if nat_lt (i + c) n then bit_at x (i + c) else 0)
+  right_bit : (i : ℕ) → bit_at (x / 2 ^ c) i ≡ (if nat_lt (i + c) n then bit_at x (i + c) else 0)
   right_bit i = ⊎_elim
       (λ inside. rw (lt-ltb (i + c) n inside) (quotient_bit x c i))
       (λ past. rw (le-ltb (i + c) n past) (quotient_bit x c i ∙ bit_at_above x n (i + c) small past))

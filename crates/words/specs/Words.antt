@@ -20,6 +20,6 @@ lower_half w = w % 2 ^ 15
 abbrev pub joined : ℕ → ℕ → ℕ
 joined u l = half_bits u * 2 ^ 15 + half_bits l
 
--- the ones complement of a number of n bits: each bit turned over
+-- the ones complement of a number of n bits, which has each bit turned over
 abbrev pub complement : ℕ → ℕ → ℕ
 complement n x = 2 ^ n - 1 - x

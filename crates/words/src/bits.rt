@@ -1,5 +1,6 @@
 // Numbers of so many bits, 32 at the most.
 ghost use Rattle.std.specs.Prelude.{◌≡◌, ℕ, ◌%◌, ◌^◌, ◌<◌, ◌≤◌, ◌-◌};
+ghost use Rattle.std.specs.Int.{bit_at};
 ghost use Rattle.words.specs.Words.{complement};
 
 use super::numbers::{lowest, ones};
@@ -41,8 +42,10 @@ impl<const N: u32> Bits<N> {
     }
 
     // Each bit turned over.
+    #[tactic(auto, using(crate::proofs::BitByBit::complement_bit))]
     pub fn complement(self) -> Bits<N>
-        ensures { result ≡ complement N self.entry }
+        ensures value { result ≡ complement N self.entry }
+        ensures bits { (i : ℕ) → i < N → bit_at result i ≡ 1 - bit_at self.entry i }
     {
         Bits {
             number: (ones::<N>() - u64::from(self.number)) as u32,
