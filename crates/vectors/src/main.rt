@@ -6,25 +6,26 @@ mod answer;
 mod arguments;
 mod question;
 
+use anyhow::bail;
 use question::answer;
+use std::io;
 use std::process::ExitCode;
 
-// Answers each line, up to one that asks nothing.
-fn run(rt: &HostRuntime) -> anyhow::Result<bool> {
-    let text = std::io::read_to_string(rt.alloc(), rt.stdin())?;
+// Answers each line, up to one that is no question.
+fn run(rt: &HostRuntime) -> anyhow::Result<()> {
+    let text = io::read_to_string(rt.alloc(), rt.stdin())?;
     for line in text.as_str().lines() {
         match answer(line) {
             Some(answer) => println!(rt; "{line} -> {answer}")?,
-            None => return Ok(false),
+            None => bail!("no question: {line}"),
         }
     }
-    Ok(true)
+    Ok(())
 }
 
 fn main(rt: HostRuntime) -> ExitCode {
     match run(&rt) {
-        Ok(true) => ExitCode::SUCCESS,
-        Ok(false) => ExitCode::FAILURE,
+        Ok(()) => ExitCode::SUCCESS,
         Err(error) => {
             let _ = eprintln!(rt; "{error}");
             ExitCode::FAILURE
