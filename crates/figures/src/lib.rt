@@ -20,5 +20,4 @@ pub fn worked_figures()
     ensures spoiled_three { half_of 3 ≡ record { value = 3; good = false } }
     ensures good_zero { half_of 32768 ≡ record { value = 0; good = true } }
     ensures good_three { half_of 32771 ≡ record { value = 3; good = true } }
-{
-}
+{}

@@ -12,9 +12,11 @@ extended_bit m x i positive = ⊎_elim
     (cases_lt i m)
 
 pub extended_by_zeros : (x : ℕ) → x < 2 ^ 14 → x ≡ extended 15 x
+unfolding extended
 extended_by_zeros x positive = made_of_bits 30 x _ (omega arith) (λ i _. extended_bit 15 x i (omega arith))
 
 pub extended_by_ones : (x : ℕ) → 2 ^ 14 ≤ x → x < 2 ^ 15 → 0o7777700000 + x ≡ extended 15 x
+unfolding extended
 extended_by_ones x negative small =
     let y = 2 ^ 15 - 1 - x in
     let over : 2 ^ 30 - 1 - y ≡ 0o7777700000 + x = omega arith in

@@ -34,6 +34,7 @@ by_value P whole none negated x small = ⊎_elim
     (cases_lt x (2 ^ 59))
 
 pub less_is : (x y : ℕ) → x < 2 ^ 60 → y < 2 ^ 60 → nat_lt (bit_xor x (2 ^ 59)) (bit_xor y (2 ^ 59)) ≡ less x y
+unfolding less
 less_is x y p q = by_value (λ s v. nat_lt s (bit_xor y (2 ^ 59)) ≡ is_below v (value 60 y))
     (λ a. by_value (λ t w. nat_lt (2 ^ 59 + a) t ≡ is_below (integer (pos a)) w) (λ b. grind (arith, ints)) (grind (arith, ints)) (λ l low. grind (arith, ints)) y q)
     (by_value (λ t w. nat_lt (2 ^ 59 - 1) t ≡ is_below minus_zero w) (λ b. grind (arith, ints)) (grind (arith, ints)) (λ l low. grind (arith, ints)) y q)

@@ -1,5 +1,5 @@
 -- The scale factor: how turns add up, and that 28 turns are enough.
-use Rattle.std.proofs.Common.{ℕ, zero, suc, ◌≡◌, ◌+◌, ◌-◌, ◌%◌, ◌^◌, ◌<◌, ◌≤◌, ◌⊎◌, Bool, true, false, ◌==◌, if◌then◌else◌, arith, refl, ap, sym, subst, ◌∙◌, ⊎_elim, inl, inr}
+use Rattle.std.proofs.Common.{ℕ, zero, suc, ◌≡◌, ◌+◌, ◌-◌, ◌%◌, ◌^◌, ◌<◌, ◌≤◌, ◌⊎◌, Bool, true, false, ◌==◌, if◌then◌else◌, arith, refl, ap, sym, subst, ◌∙◌, ⊎_elim, inl, inr, zero-add}
 use Rattle.std.proofs.lemmas.Bool.{cases_lt, cases_Bool, eqb-true, or_cases, false≢true, false_from_ne_true}
 use Rattle.std.proofs.lemmas.Nat.Bits.{bit_at-lt, bit_at-zero, bit_at_ones, same_from_bits_below}
 use Rattle.std.specs.Int.{bit_at}
@@ -10,12 +10,15 @@ use Rattle.words.specs.Sums.{minus_zero}
 use Rattle.words.proofs.BitByBit.{made_of_bits, of_bits_fit, bit_of_bits, same_bits}
 
 turned_bit : (x c i : ℕ) → i < 30 → bit_at (turned_left 30 x c) i ≡ bit_at x ((i + (30 - c % 30)) % 30)
+unfolding turned_left
 turned_bit x c i within = bit_of_bits 30 (λ j. bit_at x ((j + (30 - c % 30)) % 30)) i (λ j. bit_at-lt x ((j + (30 - c % 30)) % 30)) within
 
 pub turned_by_none : (x : ℕ) → x < 2 ^ 30 → turned_left 30 x 0 ≡ x
+unfolding turned_left
 turned_by_none x small = sym (made_of_bits 30 x (λ i. bit_at x ((i + (30 - 0 % 30)) % 30)) small (λ i within. ap (bit_at x) (omega arith)))
 
 pub turned_again : (x c d : ℕ) → turned_left 30 (turned_left 30 x c) d ≡ turned_left 30 x (c + d)
+unfolding turned_left
 turned_again x c d = same_bits 30
     (λ i. bit_at (turned_left 30 x c) ((i + (30 - d % 30)) % 30))
     (λ i. bit_at x ((i + (30 - (c + d) % 30)) % 30))
@@ -24,12 +27,12 @@ turned_again x c d = same_bits 30
 
 -- the turns of a word with all bits the same, and of one with a difference at the top
 all_zeros : (most : ℕ) → turns_within most 0 ≡ most
-unfolding turns_within of_bits
+unfolding turns_within of_bits turned_left
 all_zeros zero = refl
 all_zeros (suc most) = ap suc (all_zeros most)
 
 all_ones : (most : ℕ) → turns_within most minus_zero ≡ most
-unfolding turns_within of_bits
+unfolding turns_within of_bits turned_left
 all_ones zero = refl
 all_ones (suc most) = ap suc (all_ones most)
 
@@ -90,10 +93,11 @@ of_zeros P plus minus a same = ⊎_elim
     (or_cases (a == 0) (a == minus_zero) same)
 
 pub zero_scaled : (a : ℕ) → is_zero a ≡ true → scale_factor a ≡ 28
+unfolding scale_factor
 zero_scaled a same = of_zeros (λ x. scale_factor x ≡ 28) (all_zeros 28) (all_ones 28) a same
 
 pub zero_turned : (a : ℕ) → is_zero a ≡ true → turned_left 30 a 28 ≡ a
-unfolding of_bits
+unfolding of_bits turned_left
 zero_turned a same = of_zeros (λ x. turned_left 30 x 28 ≡ x) refl refl a same
 
 by_tests : (p q : Bool) (x y z w : ℕ) → (p ≡ true → x ≡ y) → (p ≡ false → q ≡ true → x ≡ z) → (p ≡ false → q ≡ false → x ≡ w) → x ≡ (if p then y else (if q then z else w))
@@ -109,6 +113,7 @@ mixed_after a small mixed agree after = ⊎_elim
     (all_same a small (agree_before 28 a agree after))
 
 one_turn_more : (a : ℕ) → a < 2 ^ 30 → is_zero a ≡ false → top_bits_agree a ≡ true → scale_factor a ≡ suc (scale_factor (turned_left 30 a 1))
+unfolding scale_factor
 one_turn_more a small mixed agree = ⊎_elim
     (λ same. one_turn 27 a agree ∙ ap suc (sym same))
     (λ after. absurd (mixed_after a small mixed agree after))
@@ -116,6 +121,7 @@ one_turn_more a small mixed agree = ⊎_elim
 
 -- a turn makes no +0 and no −0 of other words
 turned_fits : (a : ℕ) → turned_left 30 a 1 < 2 ^ 30
+unfolding turned_left
 turned_fits a = of_bits_fit 30 (λ i. bit_at a ((i + (30 - 1 % 30)) % 30)) (λ i. bit_at-lt a ((i + (30 - 1 % 30)) % 30))
 
 still_mixed : (a : ℕ) → a < 2 ^ 30 → is_zero a ≡ false → top_bits_agree a ≡ true → is_zero (turned_left 30 a 1) ≡ false
@@ -125,6 +131,7 @@ still_mixed a small mixed agree = false_from_ne_true (is_zero (turned_left 30 a 
 
 -- after the turns the highest two bits differ
 differ_after : (k a : ℕ) → a < 2 ^ 30 → is_zero a ≡ false → scale_factor a ≡ k → top_bits_agree (turned_left 30 a k) ≡ false
+unfolding scale_factor
 differ_after zero a small mixed turns = ⊎_elim
     (λ agree. absurd (omega (arith, turns, one_turn 27 a agree)))
     (λ differ. ap top_bits_agree (turned_by_none a small) ∙ differ)
@@ -140,6 +147,10 @@ differ_after (suc k) a small mixed turns = ⊎_elim
 
 pub scaled_differ : (a w k : ℕ) → a < 2 ^ 30 → is_zero a ≡ false → k ≡ scale_factor a → w ≡ turned_left 30 a k → top_bits_agree w ≡ false
 scaled_differ a w k small mixed turns turned = ap top_bits_agree turned ∙ differ_after k a small mixed (sym turns)
+
+pub not_turned : (a : ℕ) → 0 + turns_within (28 - 0) a ≡ scale_factor a
+unfolding scale_factor
+not_turned a = zero-add (turns_within 28 a)
 
 -- after c turns that brought a word a to the top: one turn more, none, and no turn left
 module _ (c a total : ℕ) (so_far : c + turns_within (28 - c) a ≡ total) where
@@ -160,6 +171,7 @@ module _ (c a total : ℕ) (so_far : c + turns_within (28 - c) a ≡ total) wher
 
 -- the rule that makes the scale factor what it is
 pub rule : (a : ℕ) → a < 2 ^ 30 → scale_factor a ≡ (if is_zero a then 28 else (if top_bits_agree a then suc (scale_factor (turned_left 30 a 1)) else 0))
+unfolding scale_factor
 rule a small = by_tests (is_zero a) (top_bits_agree a) (scale_factor a) 28 (suc (scale_factor (turned_left 30 a 1))) 0
     (λ same. zero_scaled a same)
     (λ mixed agree. one_turn_more a small mixed agree)

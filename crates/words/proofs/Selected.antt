@@ -28,12 +28,15 @@ module _ (a b : ℕ) (p : a < 2) (q : b < 2) where
   but_not = grind arith
 
 pub product_is : (u v : ℕ) → bit_and u v % 2 ^ 30 ≡ product u v
+unfolding product
 product_is u v = lowest_are (bit_and u v) _ (λ i _. bit_at_and u v i ∙ both (bit_at u i) (bit_at v i) (bit_at-lt u i) (bit_at-lt v i))
 
 pub selective_set_is : (a y : ℕ) → bit_or a y % 2 ^ 30 ≡ selective_set a y
+unfolding selective_set
 selective_set_is a y = lowest_are (bit_or a y) _ (λ i _. bit_at_or a y i ∙ either (bit_at a i) (bit_at y i) (bit_at-lt a i) (bit_at-lt y i))
 
 pub selective_complement_is : (a y : ℕ) → bit_xor a y % 2 ^ 30 ≡ selective_complement a y
+unfolding selective_complement
 selective_complement_is a y = lowest_are (bit_xor a y) _ (λ i _. bit_at_xor a y i ∙ one_of (bit_at a i) (bit_at y i) (bit_at-lt a i) (bit_at-lt y i))
 
 cleared_bit : (a y i : ℕ) → y < 2 ^ 32 → i < 30 → bit_at (bit_and a (bit_not w32 y)) i ≡ (if bit_at y i == 1 then 0 else bit_at a i)
@@ -42,12 +45,14 @@ cleared_bit a y i small within =
     ∙ but_not (bit_at a i) (bit_at y i) (bit_at-lt a i) (bit_at-lt y i)
 
 pub selective_clear_is : (a y : ℕ) → y < 2 ^ 32 → bit_and a (bit_not w32 y) % 2 ^ 30 ≡ selective_clear a y
+unfolding selective_clear
 selective_clear_is a y small = lowest_are (bit_and a (bit_not w32 y)) _ (λ i within. cleared_bit a y i small within)
 
 substituted : (a m y : ℕ) → a < 2 → m < 2 → y < 2 → max (min y m) (if m == 1 then 0 else a) ≡ (if m == 1 then y else a)
 substituted a m y p q r = grind arith
 
 pub selective_substitute_is : (a mask y : ℕ) → mask < 2 ^ 32 → bit_or (bit_and y mask) (bit_and a (bit_not w32 mask)) % 2 ^ 30 ≡ selective_substitute a mask y
+unfolding selective_substitute
 selective_substitute_is a mask y small =
     let chosen = bit_and y mask in
     let kept = bit_and a (bit_not w32 mask) in

@@ -18,6 +18,7 @@ module _ (n x c : ℕ) (small : x < 2 ^ n) where
       (cases_lt (i + c) n)
 
 pub shifted_right_is : (n x c : ℕ) → x < 2 ^ n → x / 2 ^ c ≡ shifted_right n x c
+unfolding shifted_right
 shifted_right_is n x c small = made_of_bits n (x / 2 ^ c) _ (omega (arith, shr_le x c)) (λ i _. right_bit n x c small i)
 
 twice : (n : ℕ) → 0 < n → 2 ^ n ≡ 2 ^ (n - 1) * 2
@@ -31,6 +32,7 @@ positive_bit n x c i positive within = ⊎_elim
     (cases_lt (i + c) n)
 
 pub shifted_positive : (n x c : ℕ) → 0 < n → x / 2 ^ (n - 1) ≡ 0 → x < 2 ^ n → x / 2 ^ c ≡ shifted_right_with_sign n x c
+unfolding shifted_right_with_sign
 shifted_positive n x c some zero_bit small =
     let low : x < 2 ^ (n - 1) = ⊎_elim (λ below. below) (λ above. absurd (omega (arith, zero_bit, le-div 1 x (2 ^ (n - 1)) (pow_pos (n - 1)) (omega arith)))) (cases_lt x (2 ^ (n - 1))) in
     let positive : 2 * x < 2 ^ n = omega (arith, twice n some) in
@@ -38,6 +40,7 @@ shifted_positive n x c some zero_bit small =
 
 -- and where it is 1, with every bit turned over before and after
 pub shifted_negative : (n x c : ℕ) → 0 < n → x / 2 ^ (n - 1) ≢ 0 → x < 2 ^ n → 2 ^ n - 1 - (2 ^ n - 1 - x) / 2 ^ c ≡ shifted_right_with_sign n x c
+unfolding shifted_right_with_sign
 shifted_negative n x c some one_bit small =
     let negative : 2 ^ (n - 1) ≤ x = ⊎_elim (λ low. absurd (one_bit (div-eq_of_lt low))) (λ high. high) (cases_lt x (2 ^ (n - 1))) in
     let y = 2 ^ n - 1 - x in
@@ -61,6 +64,7 @@ turned_bit n x u d i split inside fits small within =
     (cases_lt i u)
 
 pub turned_is : (n x c : ℕ) → 0 < n → n ≤ 60 → x < 2 ^ n → bit_or (x * 2 ^ (c % n) % 2 ^ 64) (x / 2 ^ (n - c % n)) % 2 ^ n ≡ turned_left n x c
+unfolding turned_left
 turned_is n x c some fits small =
     let u = c % n in
     let inside : u < n = mod_below c n some in

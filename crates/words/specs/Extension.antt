@@ -3,5 +3,5 @@ use Rattle.std.specs.Prelude.{ℕ, ◌-◌, min}
 use Rattle.std.specs.Int.{bit_at}
 use Rattle.words.specs.Bits.{of_bits}
 
-abbrev pub extended : ℕ → ℕ → ℕ
+unfoldable pub extended : ℕ → ℕ → ℕ
 extended m x = of_bits 30 (λ i. bit_at x (min i (m - 1)))

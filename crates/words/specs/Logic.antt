@@ -8,30 +8,30 @@ abbrev pub where_ones : ℕ → (ℕ → ℕ) → (ℕ → ℕ) → ℕ
 where_ones mask f g = of_bits 30 (λ i. if bit_at mask i == 1 then f i else g i)
 
 -- the bits of u where v has ones, and zeros elsewhere
-abbrev pub product : ℕ → ℕ → ℕ
+unfoldable pub product : ℕ → ℕ → ℕ
 product u v = where_ones v (bit_at u) (λ _. 0)
 
 -- a, but where y has ones: set to 1, turned over, and set to 0
-abbrev pub selective_set : ℕ → ℕ → ℕ
+unfoldable pub selective_set : ℕ → ℕ → ℕ
 selective_set a y = where_ones y (λ _. 1) (bit_at a)
 
-abbrev pub selective_complement : ℕ → ℕ → ℕ
+unfoldable pub selective_complement : ℕ → ℕ → ℕ
 selective_complement a y = where_ones y (λ i. 1 - bit_at a i) (bit_at a)
 
-abbrev pub selective_clear : ℕ → ℕ → ℕ
+unfoldable pub selective_clear : ℕ → ℕ → ℕ
 selective_clear a y = where_ones y (λ _. 0) (bit_at a)
 
 -- a, but where the mask has ones: the bits of y
-abbrev pub selective_substitute : ℕ → ℕ → ℕ → ℕ
+unfoldable pub selective_substitute : ℕ → ℕ → ℕ → ℕ
 selective_substitute a mask y = where_ones mask (bit_at y) (bit_at a)
 
 -- an odd number of bits are 1
-abbrev pub has_odd_ones : ℕ → Bool
+unfoldable pub has_odd_ones : ℕ → Bool
 has_odd_ones w = count_ones w % 2 == 1
 
 -- of two words only the bits where the mask has ones
-abbrev pub equal_under : ℕ → ℕ → ℕ → Bool
+unfoldable pub equal_under : ℕ → ℕ → ℕ → Bool
 equal_under mask x y = product x mask == product y mask
 
-abbrev pub less_under : ℕ → ℕ → ℕ → Bool
+unfoldable pub less_under : ℕ → ℕ → ℕ → Bool
 less_under mask x y = nat_lt (product x mask) (product y mask)

@@ -18,5 +18,5 @@ is_below (integer a) minus_zero = int_lt a (pos 0)
 is_below minus_zero (integer b) = not (int_lt b (pos 0))
 is_below minus_zero minus_zero = false
 
-abbrev pub less : ℕ → ℕ → Bool
+unfoldable pub less : ℕ → ℕ → Bool
 less x y = is_below (value 60 x) (value 60 y)

@@ -18,5 +18,5 @@ turns_within zero a = 0
 turns_within (suc most) a = if top_bits_agree a then suc (turns_within most (turned_left 30 a 1)) else 0
 
 -- where all bits are the same none do, and it is 28; all others need 28 at the most
-abbrev pub scale_factor : ℕ → ℕ
+unfoldable pub scale_factor : ℕ → ℕ
 scale_factor a = turns_within 28 a

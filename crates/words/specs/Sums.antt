@@ -11,9 +11,9 @@ abbrev pub minus_zero : ℕ
 minus_zero = 2 ^ 30 - 1
 
 -- the difference of the numbers; where that is negative, 2^30 − 1 more
-abbrev pub difference : ℕ → ℕ → ℕ
+unfoldable pub difference : ℕ → ℕ → ℕ
 difference u v = if nat_lt u v then u + (2 ^ 30 - 1) - v else u - v
 
 -- the difference of u and the ones complement of v
-abbrev pub sum : ℕ → ℕ → ℕ
+unfoldable pub sum : ℕ → ℕ → ℕ
 sum u v = difference u (complement 30 v)

@@ -5,6 +5,7 @@ ghost use Rattle.words.specs.Characters.{packed};
 use super::Word;
 
 // The lowest characters of five words side by side, the first word's on top.
+#[tactic(auto, unfolding(crate::specs::Characters::packed))]
 pub fn packed(words: [Word; 5]) -> Word
     ensures { result ≡ packed words }
 {

@@ -46,6 +46,7 @@ impl Word {
     }
 
     // Is the number of ones odd?
+    #[tactic(auto, unfolding(crate::specs::Logic::has_odd_ones))]
     pub fn has_odd_ones(self) -> bool
         ensures { result ≡ has_odd_ones self }
     {
@@ -53,6 +54,7 @@ impl Word {
     }
 
     // Are the two words the same where the mask has ones?
+    #[tactic(auto, unfolding(crate::specs::Logic::equal_under))]
     pub fn equals_under(self, mask: Word, other: Word) -> bool
         ensures { result ≡ equal_under mask self other }
     {
@@ -60,6 +62,7 @@ impl Word {
     }
 
     // Is this word, with zeros where the mask has zeros, the smaller number of the two?
+    #[tactic(auto, unfolding(crate::specs::Logic::less_under))]
     pub fn is_less_under(self, mask: Word, other: Word) -> bool
         ensures { result ≡ less_under mask self other }
     {

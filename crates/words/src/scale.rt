@@ -29,7 +29,7 @@ impl Word {
     }
 
     // Turns the word to the left until its highest two bits differ; one whose bits are all the same it leaves, and counts 28.
-    #[tactic(auto, using(crate::proofs::Scaling::rule, crate::proofs::Scaling::zero_scaled, crate::proofs::Scaling::zero_turned, crate::proofs::Scaling::turned_by_none, crate::proofs::Scaling::turned_again, crate::proofs::Scaling::turned_on, crate::proofs::Scaling::turned_all, crate::proofs::Scaling::scaled_differ))]
+    #[tactic(auto, using(crate::proofs::Scaling::rule, crate::proofs::Scaling::zero_scaled, crate::proofs::Scaling::zero_turned, crate::proofs::Scaling::turned_by_none, crate::proofs::Scaling::turned_again, crate::proofs::Scaling::not_turned, crate::proofs::Scaling::turned_on, crate::proofs::Scaling::turned_all, crate::proofs::Scaling::scaled_differ))]
     pub fn scaled(self) -> Scaled
         ensures count { result.count ≡ scale_factor self }
         ensures word { result.word ≡ turned_left 30 self result.count }

@@ -10,6 +10,7 @@ pub(crate) const ONES: u32 = 0o7777777777;
 
 impl Word {
     // This word less another. Only −0 less +0 is −0.
+    #[tactic(auto, unfolding(crate::specs::Sums::difference))]
     pub fn difference(self, v: Word) -> Word
         ensures value { result ≡ difference self v }
         ensures itself { v ≡ self → result ≡ 0 }
@@ -21,6 +22,7 @@ impl Word {
     }
 
     // This word and another, in either order. −0 added leaves every word, +0 every one but −0; a word and its complement are +0; only −0 and −0 are −0.
+    #[tactic(auto, unfolding(crate::specs::Sums::sum, crate::specs::Sums::difference))]
     pub fn sum(self, v: Word) -> Word
         ensures value { result ≡ sum self v }
         ensures commutes { result ≡ sum v self }
