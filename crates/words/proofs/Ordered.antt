@@ -1,11 +1,11 @@
--- With the sign bits turned over, numbers of 60 bits lie in the order of what they stand for.
-use Rattle.std.proofs.Common.{ℕ, suc, ◌≡◌, ◌+◌, ◌-◌, ◌^◌, ◌<◌, nat_lt, arith, ap, ◌∙◌, ⊎_elim, lt-ltb, le-ltb, ne_eqb, zero-add}
+-- With the sign bits turned over, numbers of 60 bits lie in the order of their values.
+use Rattle.std.proofs.Common.{ℕ, suc, sym, not, inl, inr, ◌⊎◌, ◌≢◌, ◌≡◌, ◌+◌, ◌-◌, ◌^◌, ◌<◌, nat_lt, arith, ap, ◌∙◌, ⊎_elim, lt-ltb, le-ltb, ne_eqb, zero-add}
 use Rattle.std.proofs.lemmas.Bool.{cases_lt}
 use Rattle.std.proofs.lemmas.Int.{ints}
 use Rattle.std.proofs.lemmas.Nat.{xor_block, xor_comm}
 use Rattle.std.specs.Int.RustNames.{bit_xor}
 use Rattle.std.specs.Prelude.{pos, negsuc}
-use Rattle.words.specs.Order.{Value, integer, minus_zero, value, is_below, less}
+use Rattle.words.specs.Order.{Value, integer, negative_zero, value, is_below, less}
 
 -- a sign bit of 0 and one of 1, turned over
 positive_turned : (x : ℕ) → x < 2 ^ 59 → bit_xor x (2 ^ 59) ≡ 2 ^ 59 + x
@@ -17,7 +17,7 @@ negative_turned x small =
     ap (λ y. bit_xor y (2 ^ 59)) (omega arith) ∙ xor_block 59 1 1 x 0 small (omega arith) ∙ ap (λ y. 0 + y) (xor_comm x 0) ∙ zero-add x
 
 -- the three kinds of values, and what the number is with its sign bit turned over
-by_value : (P : ℕ → Value → Type 0) → ((a : ℕ) → P (2 ^ 59 + a) (integer (pos a))) → P (2 ^ 59 - 1) minus_zero → ((k : ℕ) → k < 2 ^ 59 - 1 → P (2 ^ 59 - 2 - k) (integer (negsuc k))) →
+by_value : (P : ℕ → Value → Type 0) → ((a : ℕ) → P (2 ^ 59 + a) (integer (pos a))) → P (2 ^ 59 - 1) negative_zero → ((k : ℕ) → k < 2 ^ 59 - 1 → P (2 ^ 59 - 2 - k) (integer (negsuc k))) →
     (x : ℕ) → x < 2 ^ 60 → P (bit_xor x (2 ^ 59)) (value 60 x)
 by_value P whole none negated x small = ⊎_elim
     (λ positive. rw (positive_turned x positive, ne_eqb x (2 ^ 60 - 1) (λ e. omega arith), lt-ltb x (2 ^ 59) positive) (whole x))
@@ -37,6 +37,26 @@ pub less_is : (x y : ℕ) → x < 2 ^ 60 → y < 2 ^ 60 → nat_lt (bit_xor x (2
 unfolding less
 less_is x y p q = by_value (λ s v. nat_lt s (bit_xor y (2 ^ 59)) ≡ is_below v (value 60 y))
     (λ a. by_value (λ t w. nat_lt (2 ^ 59 + a) t ≡ is_below (integer (pos a)) w) (λ b. grind (arith, ints)) (grind (arith, ints)) (λ l low. grind (arith, ints)) y q)
-    (by_value (λ t w. nat_lt (2 ^ 59 - 1) t ≡ is_below minus_zero w) (λ b. grind (arith, ints)) (grind (arith, ints)) (λ l low. grind (arith, ints)) y q)
+    (by_value (λ t w. nat_lt (2 ^ 59 - 1) t ≡ is_below negative_zero w) (λ b. grind (arith, ints)) (grind (arith, ints)) (λ l low. grind (arith, ints)) y q)
     (λ k low. by_value (λ t w. nat_lt (2 ^ 59 - 2 - k) t ≡ is_below (integer (negsuc k)) w) (λ b. grind (arith, ints)) (grind (arith, ints)) (λ l under. grind (arith, ints)) y q)
     x p
+
+-- a number that is not below another is above it or is it
+turned_back : (x : ℕ) → x < 2 ^ 60 → (bit_xor x (2 ^ 59) ≡ 2 ^ 59 + x) ⊎ (x ≡ 2 ^ 59 + bit_xor x (2 ^ 59))
+turned_back x small = ⊎_elim
+    (λ positive. inl (positive_turned x positive))
+    (λ negative.
+    let split : x ≡ 2 ^ 59 + (x - 2 ^ 59) = omega arith in
+    inr (split ∙ ap (λ y. 2 ^ 59 + y) (sym (ap (λ y. bit_xor y (2 ^ 59)) split ∙ negative_turned (x - 2 ^ 59) (omega arith)))))
+    (cases_lt x (2 ^ 59))
+
+flipped : (s t : ℕ) → s ≢ t → nat_lt s t ≡ not (nat_lt t s)
+flipped s t apart = grind (arith, apart)
+
+pub either_way : (x y : ℕ) → x < 2 ^ 60 → y < 2 ^ 60 → x ≢ y → less x y ≡ not (less y x)
+either_way x y p q apart =
+    let still_apart : bit_xor x (2 ^ 59) ≢ bit_xor y (2 ^ 59) = λ same. apart (⊎_elim
+    (λ a. ⊎_elim (λ b. omega (arith, a, b, same)) (λ b. omega (arith, a, b, same)) (turned_back y q))
+    (λ a. ⊎_elim (λ b. omega (arith, a, b, same)) (λ b. omega (arith, a, b, same)) (turned_back y q))
+    (turned_back x p)) in
+    sym (less_is x y p q) ∙ flipped (bit_xor x (2 ^ 59)) (bit_xor y (2 ^ 59)) still_apart ∙ ap not (less_is y x q p)

@@ -25,6 +25,9 @@ turned_again x c d = same_bits 30
     (λ i. bit_at-lt (turned_left 30 x c) ((i + (30 - d % 30)) % 30))
     (λ i within. turned_bit x c ((i + (30 - d % 30)) % 30) (omega arith) ∙ ap (bit_at x) (omega arith))
 
+one_and_more : (a k : ℕ) → turned_left 30 (turned_left 30 a 1) k ≡ turned_left 30 a (suc k)
+one_and_more a k = turned_again a 1 k ∙ (let count : 1 + k ≡ suc k = omega arith in ap (turned_left 30 a) count)
+
 -- the turns of a word with all bits the same, and of one with a difference at the top
 all_zeros : (most : ℕ) → turns_within most 0 ≡ most
 unfolding turns_within of_bits turned_left
@@ -140,13 +143,42 @@ differ_after (suc k) a small mixed turns = ⊎_elim
     (λ agree.
     let next = turned_left 30 a 1 in
     let fewer : scale_factor next ≡ k = omega (arith, turns, one_turn_more a small mixed agree) in
-    let all : turned_left 30 next k ≡ turned_left 30 a (suc k) = turned_again a 1 k ∙ (let count : 1 + k ≡ suc k = omega arith in ap (turned_left 30 a) count) in
-    ap top_bits_agree (sym all) ∙ differ_after k next (turned_fits a) (still_mixed a small mixed agree) fewer)
+    ap top_bits_agree (sym (one_and_more a k)) ∙ differ_after k next (turned_fits a) (still_mixed a small mixed agree) fewer)
     (λ differ. absurd (omega (arith, turns, no_turn 27 a differ)))
     (cases_Bool (top_bits_agree a))
 
-pub scaled_differ : (a w k : ℕ) → a < 2 ^ 30 → is_zero a ≡ false → k ≡ scale_factor a → w ≡ turned_left 30 a k → top_bits_agree w ≡ false
-scaled_differ a w k small mixed turns turned = ap top_bits_agree turned ∙ differ_after k a small mixed (sym turns)
+-- and before them they agree
+agree_within : (most a : ℕ) → a < 2 ^ 30 → (k : ℕ) → k < turns_within most a → top_bits_agree (turned_left 30 a k) ≡ true
+agree_within zero a small k left = absurd (omega (arith, no_turns a))
+agree_within (suc most) a small zero left = ⊎_elim
+    (λ agree. ap top_bits_agree (turned_by_none a small) ∙ agree)
+    (λ differ. absurd (omega (arith, left, no_turn most a differ)))
+    (cases_Bool (top_bits_agree a))
+agree_within (suc most) a small (suc k) left = ⊎_elim
+    (λ agree. ap top_bits_agree (sym (one_and_more a k)) ∙ agree_within most (turned_left 30 a 1) (turned_fits a) k (omega (arith, left, one_turn most a agree)))
+    (λ differ. absurd (omega (arith, left, no_turn most a differ)))
+    (cases_Bool (top_bits_agree a))
+
+pub differ_then : (a w k : ℕ) → a < 2 ^ 30 → is_zero a ≡ false → k ≡ scale_factor a → w ≡ turned_left 30 a k → top_bits_agree w ≡ false
+differ_then a w k small mixed turns turned = ap top_bits_agree turned ∙ differ_after k a small mixed (sym turns)
+
+pub agree_before_that : (a j : ℕ) → a < 2 ^ 30 → j ≡ scale_factor a → (k : ℕ) → k < j → top_bits_agree (turned_left 30 a k) ≡ true
+unfolding scale_factor
+agree_before_that a j small turns k before = agree_within 28 a small k (omega arith)
+
+within : (most a : ℕ) → turns_within most a ≤ most
+within zero a = omega (arith, no_turns a)
+within (suc most) a = ⊎_elim
+    (λ agree. omega (arith, one_turn most a agree, within most (turned_left 30 a 1)))
+    (λ differ. omega (arith, no_turn most a differ))
+    (cases_Bool (top_bits_agree a))
+
+pub at_most_28 : (a k : ℕ) → k ≡ scale_factor a → k ≤ 28
+unfolding scale_factor
+at_most_28 a k turns = omega (arith, turns, within 28 a)
+
+pub zero_left : (a w k : ℕ) → is_zero a ≡ true → k ≡ scale_factor a → w ≡ turned_left 30 a k → w ≡ a
+zero_left a w k same turns turned = turned ∙ ap (turned_left 30 a) (turns ∙ zero_scaled a same) ∙ zero_turned a same
 
 pub not_turned : (a : ℕ) → 0 + turns_within (28 - 0) a ≡ scale_factor a
 unfolding scale_factor

@@ -6,6 +6,8 @@ use Rattle.std.proofs.Math.Nat.{mod-eq_of_lt, add-mod_left, div-eq_of_lt, pow-le
 use Rattle.std.proofs.lemmas.Nat.Bits.{bit_at_cat_low, bit_at_cat_high, bit_at_above, bit_at-zero, bit_at_or}
 use Rattle.std.specs.Int.{bit_at}
 use Rattle.std.specs.Int.RustNames.{bit_or}
+use Rattle.words.specs.Bits.{of_bits}
+use Rattle.words.specs.Double.{over, upper_word, lower_word}
 use Rattle.words.specs.Shifts.{shifted_right, shifted_right_with_sign, turned_left}
 use Rattle.words.proofs.BitByBit.{quotient_bit, remainder_bit, made_of_bits, turned_twice, top_bit_zero}
 
@@ -82,3 +84,19 @@ quotient_capped n x c wide small = ⊎_elim
     (λ few. let all : min c 63 ≡ c = omega arith in ap (λ k. x / 2 ^ k) all)
     (λ many. let most : min c 63 ≡ 63 = omega arith in ap (λ k. x / 2 ^ k) most ∙ div-eq_of_lt (below_all n 63 x (omega arith) small) ∙ sym (div-eq_of_lt (below_all n c x (omega arith) small)))
     (cases_lt c 63)
+
+-- whole turns change nothing
+pub turned_remainder : (n x c : ℕ) → 0 < n → turned_left n x (c % n) ≡ turned_left n x c
+unfolding turned_left
+turned_remainder n x c some = ap (λ u. of_bits n (λ i. bit_at x ((i + (n - u)) % n))) (mod-eq_of_lt (mod_below c n some))
+
+-- a turn of 60 bits by 30
+pub turned_half : (x c : ℕ) → x < 2 ^ 60 → c ≡ 30 → turned_left 60 x c ≡ over (lower_word x) (upper_word x)
+unfolding turned_left
+turned_half x c small half =
+    let lower = lower_word x in
+    let upper = upper_word x in
+    ap (turned_left 60 x) half ∙ sym (made_of_bits 60 (lower * 2 ^ 30 + upper) (λ i. bit_at x ((i + (60 - 30 % 60)) % 60)) (omega arith) (λ i within. ⊎_elim
+    (λ low. bit_at_cat_low lower 30 upper i low ∙ remainder_bit (x / 2 ^ 30) 30 i low ∙ quotient_bit x 30 i ∙ ap (bit_at x) (omega arith))
+    (λ high. bit_at_cat_high lower 30 upper i (omega arith) high ∙ remainder_bit x 30 (i - 30) (omega arith) ∙ ap (bit_at x) (omega arith))
+    (cases_lt i 30)))

@@ -1,4 +1,4 @@
--- Numbers by their bits. `bit_at x i` is bit i of a number x; bit 0 is the lowest.
+-- Numbers by their bits. Bit i of a number x is std's `bit_at x i`, which is x / 2 ^ i % 2, so bit 0 is the lowest.
 use Rattle.std.specs.Prelude.{ℕ, zero, suc, ◌+◌, ◌*◌, ◌^◌}
 
 -- the number of n bits that has f i as its bit i

@@ -2,7 +2,7 @@
 use Rattle.std.specs.Prelude.{ℕ, ◌+◌, ◌-◌, ◌^◌, nat_lt, if◌then◌else◌, ℤ, pos, neg_ℤ}
 use Rattle.words.specs.Words.{complement}
 
--- the integer that a number of n bits stands for: itself, or where its highest bit is 1 minus its complement
+-- the integer that a number of n bits stands for: itself where its highest bit is 0, and minus its complement where that is 1
 abbrev pub integer_of : ℕ → ℕ → ℤ
 integer_of n x = if nat_lt x (2 ^ (n - 1)) then pos x else neg_ℤ (pos (complement n x))
 

@@ -13,7 +13,7 @@ impl Word {
         Word::new(self.get() & v.get())
     }
 
-    // Ones where the other word has ones.
+    // This word, but with ones where the other has ones.
     #[tactic(auto, using(crate::proofs::Selected::selective_set_is))]
     pub fn selective_set(self, y: Word) -> Word
         ensures { result ≡ selective_set self y }
@@ -21,7 +21,7 @@ impl Word {
         Word::new(self.get() | y.get())
     }
 
-    // The bits turned over where the other word has ones.
+    // This word, but with its bits turned over where the other has ones.
     #[tactic(auto, using(crate::proofs::Selected::selective_complement_is))]
     pub fn selective_complement(self, y: Word) -> Word
         ensures { result ≡ selective_complement self y }
@@ -29,7 +29,7 @@ impl Word {
         Word::new(self.get() ^ y.get())
     }
 
-    // Zeros where the other word has ones.
+    // This word, but with zeros where the other has ones.
     #[tactic(auto, using(crate::proofs::Selected::selective_clear_is))]
     pub fn selective_clear(self, y: Word) -> Word
         ensures { result ≡ selective_clear self y }
@@ -37,7 +37,7 @@ impl Word {
         Word::new(self.get() & !y.get())
     }
 
-    // The bits of another word where the mask has ones.
+    // This word, but with the bits of another where the mask has ones.
     #[tactic(auto, using(crate::proofs::Selected::selective_substitute_is))]
     pub fn selective_substitute(self, mask: Word, y: Word) -> Word
         ensures { result ≡ selective_substitute self mask y }

@@ -1,5 +1,5 @@
 // Comparisons of two words with two others.
-ghost use Rattle.std.specs.Prelude.{◌≡◌, ◌==◌};
+ghost use Rattle.std.specs.Prelude.{◌≡◌, ◌≢◌, ◌==◌, false, not};
 ghost use Rattle.words.specs.Order.{less};
 
 use super::DoubleWord;
@@ -15,11 +15,13 @@ impl DoubleWord {
         self.get() == other.get()
     }
 
-    // Is this number the smaller one of the two, with their signs, and with −0 just below +0? With the sign bits turned over it is the smaller one as they are.
-    #[tactic(auto, using(crate::proofs::Ordered::less_is))]
+    // Is this number below the other, by their values? With both sign bits turned over, the plain order of the numbers is this one.
+    #[tactic(auto, using(crate::proofs::Ordered::less_is, crate::proofs::Ordered::either_way))]
     pub fn is_less(self, other: DoubleWord) -> bool
-        ensures { result ≡ less self other }
+        ensures value { result ≡ less self other }
+        ensures itself { other ≡ self → result ≡ false }
+        ensures either { self ≢ other → result ≡ not (less other self) }
     {
-        self.get() ^ SIGN < other.get() ^ SIGN
+        (self.get() ^ SIGN) < (other.get() ^ SIGN)
     }
 }

@@ -1,29 +1,22 @@
 // Shifts and turns of a word and of two words, each written once for a number of N bits. A count of N or more shifts every bit out, and turns by what
 // whole turns leave of it.
 ghost use Rattle.std.specs.Prelude.{◌≡◌, ◌/◌, ◌%◌, ◌-◌, ◌^◌, ◌<◌, ◌≤◌};
+ghost use Rattle.words.specs.Double.{over, upper_word, lower_word};
 ghost use Rattle.words.specs.Shifts.{shifted_right, shifted_right_with_sign, turned_left};
 
 use super::numbers::{lowest, ones};
 use super::{DoubleWord, Word};
 
-// A number without its lowest bits, as many as the count.
-#[tactic(auto, using(crate::proofs::Shifted::quotient_capped))]
-fn without_lowest<const N: u32>(x: u64, count: u32) -> u64
-    requires number { x < 2 ^ N }
-    requires width { N ≤ 60 }
-    ensures { result ≡ x / 2 ^ count }
-{
-    x >> count.min(63)
-}
-
-#[tactic(auto, using(crate::proofs::Shifted::shifted_right_is))]
+// A number of 64 bits cannot be shifted by more than 63, which leaves no bit of N.
+#[tactic(auto, using(crate::proofs::Shifted::quotient_capped, crate::proofs::Shifted::shifted_right_is))]
 fn shifted_right<const N: u32>(x: u64, count: u32) -> u64
     requires number { x < 2 ^ N }
     requires width { N ≤ 60 }
     ensures value { result ≡ shifted_right N x count }
+    ensures quotient { result ≡ x / 2 ^ count }
     ensures small { result < 2 ^ N }
 {
-    without_lowest::<N>(x, count)
+    x >> count.min(63)
 }
 
 // Where the sign is 1, every bit is turned over before and after, so that zeros come in for ones.
@@ -35,9 +28,9 @@ fn shifted_right_with_sign<const N: u32>(x: u64, count: u32) -> u64
     ensures small { result < 2 ^ N }
 {
     if x >> (N - 1) == 0 {
-        without_lowest::<N>(x, count)
+        shifted_right::<N>(x, count)
     } else {
-        ones::<N>() - without_lowest::<N>(ones::<N>() - x, count)
+        ones::<N>() - shifted_right::<N>(ones::<N>() - x, count)
     }
 }
 
@@ -55,7 +48,8 @@ fn turned_left<const N: u32>(x: u64, count: u32) -> u64
 impl Word {
     // To the right, with zeros coming in.
     pub fn shifted_right(self, count: u32) -> Word
-        ensures { result ≡ shifted_right 30 self count }
+        ensures value { result ≡ shifted_right 30 self count }
+        ensures quotient { result ≡ self / 2 ^ count }
     {
         Word::new(shifted_right::<30>(self.get().into(), count) as u32)
     }
@@ -68,8 +62,10 @@ impl Word {
     }
 
     // To the left, and what leaves at the top comes in at the bottom.
+    #[tactic(auto, using(crate::proofs::Shifted::turned_remainder))]
     pub fn turned_left(self, count: u32) -> Word
-        ensures { result ≡ turned_left 30 self count }
+        ensures value { result ≡ turned_left 30 self count }
+        ensures remainder { result ≡ turned_left 30 self (count % 30) }
     {
         Word::new(turned_left::<30>(self.get().into(), count) as u32)
     }
@@ -78,7 +74,8 @@ impl Word {
 // The same of 60 bits.
 impl DoubleWord {
     pub fn shifted_right(self, count: u32) -> DoubleWord
-        ensures { result ≡ shifted_right 60 self count }
+        ensures value { result ≡ shifted_right 60 self count }
+        ensures quotient { result ≡ self / 2 ^ count }
     {
         DoubleWord::new(shifted_right::<60>(self.get(), count))
     }
@@ -89,8 +86,12 @@ impl DoubleWord {
         DoubleWord::new(shifted_right_with_sign::<60>(self.get(), count))
     }
 
+    // By 30 it exchanges the two words.
+    #[tactic(auto, using(crate::proofs::Shifted::turned_remainder, crate::proofs::Shifted::turned_half))]
     pub fn turned_left(self, count: u32) -> DoubleWord
-        ensures { result ≡ turned_left 60 self count }
+        ensures value { result ≡ turned_left 60 self count }
+        ensures remainder { result ≡ turned_left 60 self (count % 60) }
+        ensures exchanged { count ≡ 30 → result ≡ over (lower_word self) (upper_word self) }
     {
         DoubleWord::new(turned_left::<60>(self.get(), count))
     }

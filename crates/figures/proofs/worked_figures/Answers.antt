@@ -6,9 +6,9 @@ use Rattle.words.specs.Shifts.{shifted_right_with_sign, turned_left}
 use Rattle.words.specs.Sums.{difference, sum}
 use Rattle.figures.proofs.worked_figures.Goals as goal
 
-pub returns-clause-three_less_five : goal.returns-clause-three_less_five
+pub returns-clause-three_minus_five : goal.returns-clause-three_minus_five
 unfolding difference
-returns-clause-three_less_five c = refl
+returns-clause-three_minus_five c = refl
 
 pub returns-clause-five_and_minus_five : goal.returns-clause-five_and_minus_five
 unfolding sum difference
