@@ -1,13 +1,15 @@
 -- Shifts by quotients, and turns, are what their definitions say of each bit.
-use Rattle.std.proofs.Common.{ℕ, suc, ◌≡◌, ◌≢◌, ◌+◌, ◌-◌, ◌*◌, ◌/◌, ◌%◌, ◌^◌, ◌<◌, ◌≤◌, nat_lt, if◌then◌else◌, arith, lt-ltb, le-ltb, min, max, ap, sym, ◌∙◌, pow-suc, ⊎_elim}
+use Rattle.std.proofs.Common.{ℕ, zero, suc, refl, ◌≡◌, ◌≢◌, ◌+◌, ◌-◌, ◌*◌, ◌/◌, ◌%◌, ◌^◌, ◌<◌, ◌≤◌, nat_lt, if◌then◌else◌, arith, lt-ltb, le-ltb, min, max, ap, sym, ◌∙◌, pow-suc, ⊎_elim}
 use Rattle.std.proofs.lemmas.Bool.{cases_lt}
 use Rattle.std.proofs.lemmas.Nat.{pow_pos, mod_below, shr_le, le-div}
-use Rattle.std.proofs.Math.Nat.{mod-eq_of_lt, add-mod_left, div-eq_of_lt, pow-le-pow_right}
+use Rattle.std.proofs.Math.Nat.{mod-eq_of_lt, add-mod_left, zero-div, div-eq_of_lt, pow-le-pow_right}
 use Rattle.std.proofs.lemmas.Nat.Bits.{bit_at_cat_low, bit_at_cat_high, bit_at_above, bit_at-zero, bit_at_or}
 use Rattle.std.specs.Int.{bit_at}
 use Rattle.std.specs.Int.RustNames.{bit_or}
 use Rattle.words.specs.Bits.{of_bits}
 use Rattle.words.specs.Double.{over, upper_word, lower_word}
+use Rattle.words.specs.Sums.{complement, integer_of}
+use Rattle.std.specs.Prelude.{pos, neg_ℤ, int_div}
 use Rattle.words.specs.Shifts.{shifted_right, shifted_right_with_sign, turned_left}
 use Rattle.words.proofs.BitByBit.{quotient_bit, remainder_bit, made_of_bits, turned_twice, top_bit_zero}
 
@@ -100,3 +102,28 @@ turned_half x c small half =
     (λ low. bit_at_cat_low lower 30 upper i low ∙ remainder_bit (x / 2 ^ 30) 30 i low ∙ quotient_bit x 30 i ∙ ap (bit_at x) (omega arith))
     (λ high. bit_at_cat_high lower 30 upper i (omega arith) high ∙ remainder_bit x 30 (i - 30) (omega arith) ∙ ap (bit_at x) (omega arith))
     (cases_lt i 30)))
+
+-- a shift with the sign coming in divides the integer, toward 0
+negated_quotient : (y d : ℕ) → neg_ℤ (pos (y / d)) ≡ int_div (neg_ℤ (pos y)) (pos d)
+negated_quotient zero d = ap (λ q. neg_ℤ (pos q)) (zero-div d) ∙ ap pos (sym (zero-div d))
+negated_quotient (suc k) d = refl
+
+module _ (n : ℕ) where
+  not_negative : (x : ℕ) → x < 2 ^ (n - 1) → integer_of n x ≡ pos x
+  not_negative x low = rw (lt-ltb x (2 ^ (n - 1)) low) refl
+
+  negative : (x : ℕ) → 2 ^ (n - 1) ≤ x → integer_of n x ≡ neg_ℤ (pos (complement n x))
+  negative x high = rw (le-ltb x (2 ^ (n - 1)) high) refl
+
+pub shifted_integer : (n x c r : ℕ) → 0 < n → x < 2 ^ n → r ≡ shifted_right_with_sign n x c → integer_of n r ≡ int_div (integer_of n x) (pos (2 ^ c))
+shifted_integer n x c r some small shifted = ap (integer_of n) shifted ∙ ⊎_elim
+    (λ low.
+    ap (integer_of n) (sym (shifted_positive n x c some (div-eq_of_lt low) small)) ∙ not_negative n (x / 2 ^ c) (omega (arith, shr_le x c))
+    ∙ ap (λ z. int_div z (pos (2 ^ c))) (sym (not_negative n x low)))
+    (λ high.
+    let y = complement n x in
+    let one_bit : x / 2 ^ (n - 1) ≢ 0 = λ none. omega (arith, none, le-div 1 x (2 ^ (n - 1)) (pow_pos (n - 1)) (omega arith)) in
+    let back : complement n (2 ^ n - 1 - y / 2 ^ c) ≡ y / 2 ^ c = omega (arith, shr_le y c) in
+    ap (integer_of n) (sym (shifted_negative n x c some one_bit small)) ∙ negative n (2 ^ n - 1 - y / 2 ^ c) (omega (arith, shr_le y c, twice n some))
+    ∙ ap (λ m. neg_ℤ (pos m)) back ∙ negated_quotient y (2 ^ c) ∙ ap (λ z. int_div z (pos (2 ^ c))) (sym (negative n x high)))
+    (cases_lt x (2 ^ (n - 1)))

@@ -1,6 +1,9 @@
--- Sums and differences of words, in ones complement.
+-- Ones complement, and sums and differences in it.
 use Rattle.std.specs.Prelude.{ℕ, ◌+◌, ◌-◌, ◌^◌, nat_lt, if◌then◌else◌, ℤ, pos, neg_ℤ}
-use Rattle.words.specs.Words.{complement}
+
+-- the ones complement of a number of n bits, which has each bit turned over
+abbrev pub complement : ℕ → ℕ → ℕ
+complement n x = 2 ^ n - 1 - x
 
 -- the integer that a number of n bits stands for: itself where its highest bit is 0, and minus its complement where that is 1
 abbrev pub integer_of : ℕ → ℕ → ℤ

@@ -1,6 +1,6 @@
 -- Of a word's 30 bits the higher fifteen, 29 to 15, are its upper half, and the lower fifteen, 14 to 0, its lower half.
 -- Each definition takes any number, and looks only at the bits that count.
-use Rattle.std.specs.Prelude.{ℕ, ◌+◌, ◌-◌, ◌*◌, ◌/◌, ◌%◌, ◌^◌}
+use Rattle.std.specs.Prelude.{ℕ, ◌+◌, ◌*◌, ◌/◌, ◌%◌, ◌^◌}
 
 -- bits 29 to 0
 abbrev pub word_bits : ℕ → ℕ
@@ -19,7 +19,3 @@ lower_half w = w % 2 ^ 15
 -- the word of an upper and a lower half
 abbrev pub joined : ℕ → ℕ → ℕ
 joined u l = half_bits u * 2 ^ 15 + half_bits l
-
--- the ones complement of a number of n bits, which has each bit turned over
-abbrev pub complement : ℕ → ℕ → ℕ
-complement n x = 2 ^ n - 1 - x

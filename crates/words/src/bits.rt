@@ -1,7 +1,7 @@
 // Numbers of so many bits, 32 at the most.
 ghost use Rattle.std.specs.Prelude.{◌≡◌, ℕ, ◌%◌, ◌^◌, ◌<◌, ◌≤◌, ◌-◌};
 ghost use Rattle.std.specs.Int.{bit_at};
-ghost use Rattle.words.specs.Words.{complement};
+ghost use Rattle.words.specs.Sums.{complement};
 
 use super::numbers::{lowest, ones};
 use std::marker::Model;

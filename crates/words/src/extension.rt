@@ -1,8 +1,7 @@
 // Halves as words.
 ghost use Rattle.std.specs.Prelude.{◌≡◌};
-ghost use Rattle.words.specs.Words.{complement};
 ghost use Rattle.words.specs.Extension.{extended};
-ghost use Rattle.words.specs.Sums.{integer_of};
+ghost use Rattle.words.specs.Sums.{complement, integer_of};
 
 use super::{HalfWord, Word};
 

@@ -1,4 +1,4 @@
-// The lowest N bits of a number, and all of them, for N up to 60.
+// The lowest N bits of a number, and N ones, for N up to 60.
 ghost use Rattle.std.specs.Prelude.{◌≡◌, ◌-◌, ◌%◌, ◌^◌, ◌<◌, ◌≤◌};
 
 // The lowest N bits.

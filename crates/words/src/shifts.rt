@@ -1,7 +1,8 @@
 // Shifts and turns of a word and of two words, each written once for a number of N bits. A count of N or more shifts every bit out, and turns by what
 // whole turns leave of it.
-ghost use Rattle.std.specs.Prelude.{◌≡◌, ◌/◌, ◌%◌, ◌-◌, ◌^◌, ◌<◌, ◌≤◌};
+ghost use Rattle.std.specs.Prelude.{◌≡◌, ◌/◌, ◌%◌, ◌^◌, ◌<◌, ◌≤◌, pos, int_div};
 ghost use Rattle.words.specs.Double.{over, upper_word, lower_word};
+ghost use Rattle.words.specs.Sums.{integer_of};
 ghost use Rattle.words.specs.Shifts.{shifted_right, shifted_right_with_sign, turned_left};
 
 use super::numbers::{lowest, ones};
@@ -20,11 +21,12 @@ fn shifted_right<const N: u32>(x: u64, count: u32) -> u64
 }
 
 // Where the sign is 1, every bit is turned over before and after, so that zeros come in for ones.
-#[tactic(auto, using(crate::proofs::Shifted::shifted_positive, crate::proofs::Shifted::shifted_negative))]
+#[tactic(auto, using(crate::proofs::Shifted::shifted_positive, crate::proofs::Shifted::shifted_negative, crate::proofs::Shifted::shifted_integer))]
 fn shifted_right_with_sign<const N: u32>(x: u64, count: u32) -> u64
     requires number { x < 2 ^ N }
     requires width { (0 < N) × (N ≤ 60) }
     ensures value { result ≡ shifted_right_with_sign N x count }
+    ensures integer { integer_of N result ≡ int_div (integer_of N x) (pos (2 ^ count)) }
     ensures small { result < 2 ^ N }
 {
     if x >> (N - 1) == 0 {
@@ -56,7 +58,8 @@ impl Word {
 
     // To the right, with copies of the sign coming in.
     pub fn shifted_right_with_sign(self, count: u32) -> Word
-        ensures { result ≡ shifted_right_with_sign 30 self count }
+        ensures value { result ≡ shifted_right_with_sign 30 self count }
+        ensures integer { integer_of 30 result ≡ int_div (integer_of 30 self) (pos (2 ^ count)) }
     {
         Word::new(shifted_right_with_sign::<30>(self.get().into(), count) as u32)
     }
@@ -81,7 +84,8 @@ impl DoubleWord {
     }
 
     pub fn shifted_right_with_sign(self, count: u32) -> DoubleWord
-        ensures { result ≡ shifted_right_with_sign 60 self count }
+        ensures value { result ≡ shifted_right_with_sign 60 self count }
+        ensures integer { integer_of 60 result ≡ int_div (integer_of 60 self) (pos (2 ^ count)) }
     {
         DoubleWord::new(shifted_right_with_sign::<60>(self.get(), count))
     }

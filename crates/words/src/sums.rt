@@ -1,7 +1,6 @@
 // Sums and differences of words.
 ghost use Rattle.std.specs.Prelude.{◌≡◌, ◌<◌, ◌^◌, ◌↔◌, ◌==◌, ◌+ℤ◌, ◌-ℤ◌, nat_abs, if◌then◌else◌};
-ghost use Rattle.words.specs.Words.{complement};
-ghost use Rattle.words.specs.Sums.{difference, integer_of, minus_zero, sum};
+ghost use Rattle.words.specs.Sums.{complement, difference, integer_of, minus_zero, sum};
 
 use super::Word;
 
