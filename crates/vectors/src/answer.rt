@@ -3,7 +3,7 @@ use std::fmt;
 use words::{DoubleWord, HalfWord, Scaled, Word};
 
 #[derive(Drop)]
-pub enum Answer {
+pub(crate) enum Answer {
     Word(Word),
     Half(HalfWord),
     Double(DoubleWord),

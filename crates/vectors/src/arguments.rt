@@ -6,12 +6,12 @@ use words::{DoubleWord, HalfWord, Word, half_bits, word_bits};
 
 // What is not read yet.
 #[derive(Drop)]
-pub struct Arguments<'a> {
+pub(crate) struct Arguments<'a> {
     rest: SplitWhitespace<'a>,
 }
 
 impl<'a> Arguments<'a> {
-    pub fn new(rest: SplitWhitespace<'a>) -> Arguments<'a> {
+    pub(crate) fn new(rest: SplitWhitespace<'a>) -> Arguments<'a> {
         Arguments { rest }
     }
 
@@ -22,24 +22,24 @@ impl<'a> Arguments<'a> {
         u32::from_str_radix(self.rest.next()?, base).ok()
     }
 
-    pub fn word(&mut self) -> Option<Word> {
+    pub(crate) fn word(&mut self) -> Option<Word> {
         Some(word_bits(self.number(8)?))
     }
 
-    pub fn half(&mut self) -> Option<HalfWord> {
+    pub(crate) fn half(&mut self) -> Option<HalfWord> {
         Some(half_bits(self.number(8)?))
     }
 
     // Two words.
-    pub fn double(&mut self) -> Option<DoubleWord> {
+    pub(crate) fn double(&mut self) -> Option<DoubleWord> {
         Some(self.word()?.over(self.word()?))
     }
 
-    pub fn count(&mut self) -> Option<u32> {
+    pub(crate) fn count(&mut self) -> Option<u32> {
         self.number(10)
     }
 
-    pub fn words(&mut self) -> Option<[Word; 5]> {
+    pub(crate) fn words(&mut self) -> Option<[Word; 5]> {
         Some([
             self.word()?,
             self.word()?,
@@ -50,7 +50,7 @@ impl<'a> Arguments<'a> {
     }
 
     // Are all of them read?
-    pub fn are_read(&mut self) -> bool {
+    pub(crate) fn are_read(&mut self) -> bool {
         self.rest.next().is_none()
     }
 }

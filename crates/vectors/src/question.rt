@@ -77,7 +77,7 @@ fn of_comparisons(name: &str, arguments: &mut Arguments<'_>) -> Option<Answer> {
 }
 
 // The answer to a line, if it is a question.
-pub fn answer(line: &str) -> Option<Answer> {
+pub(crate) fn answer(line: &str) -> Option<Answer> {
     let mut parts = line.split_whitespace();
     let name = parts.next()?;
     let mut arguments = Arguments::new(parts);
