@@ -55,8 +55,8 @@ complement_bit (suc n) x (suc i) small within =
     ∙ complement_bit n (x / 2) i (omega (arith, pow-suc 2 n)) (omega arith) ∙ ap (λ b. 1 - b) (sym (bit_at-suc x i))
 
 -- a bit that is turned over before and after
-pub turned_twice : (n z m x i j : ℕ) → z < 2 ^ n → i < n → x < 2 ^ m → j < m → bit_at z i ≡ bit_at (2 ^ m - 1 - x) j → bit_at (2 ^ n - 1 - z) i ≡ bit_at x j
-turned_twice n z m x i j low within small inside same =
+pub turned_over_twice : (n z m x i j : ℕ) → z < 2 ^ n → i < n → x < 2 ^ m → j < m → bit_at z i ≡ bit_at (2 ^ m - 1 - x) j → bit_at (2 ^ n - 1 - z) i ≡ bit_at x j
+turned_over_twice n z m x i j low within small inside same =
     let again : 1 - (1 - bit_at x j) ≡ bit_at x j = omega (arith, bit_at-lt x j) in
     complement_bit n z i low within ∙ ap (λ b. 1 - b) (same ∙ complement_bit m x j small inside) ∙ again
 

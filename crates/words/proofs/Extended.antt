@@ -3,7 +3,7 @@ use Rattle.std.proofs.Common.{ℕ, ◌≡◌, ◌+◌, ◌-◌, ◌*◌, ◌^◌
 use Rattle.std.proofs.lemmas.Bool.{cases_lt}
 use Rattle.std.specs.Int.{bit_at}
 use Rattle.words.specs.Extension.{extended}
-use Rattle.words.proofs.BitByBit.{made_of_bits, turned_twice, top_bit_zero}
+use Rattle.words.proofs.BitByBit.{made_of_bits, turned_over_twice, top_bit_zero}
 
 extended_bit : (m x i : ℕ) → 2 * x < 2 ^ m → bit_at x i ≡ bit_at x (min i (m - 1))
 extended_bit m x i positive = ⊎_elim
@@ -22,4 +22,4 @@ extended_by_ones x negative small =
     let over : 2 ^ 30 - 1 - y ≡ 0o7777700000 + x = omega arith in
     made_of_bits 30 (0o7777700000 + x) _ (omega arith) (λ i within.
     ap (λ z. bit_at z i) (sym over)
-    ∙ turned_twice 30 y 15 x i (min i 14) (omega arith) within small (omega arith) (extended_bit 15 y i (omega arith)))
+    ∙ turned_over_twice 30 y 15 x i (min i 14) (omega arith) within small (omega arith) (extended_bit 15 y i (omega arith)))

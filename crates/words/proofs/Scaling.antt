@@ -13,11 +13,11 @@ turned_bit : (x c i : ℕ) → i < 30 → bit_at (turned_left 30 x c) i ≡ bit_
 unfolding turned_left
 turned_bit x c i within = bit_of_bits 30 (λ j. bit_at x ((j + (30 - c % 30)) % 30)) i (λ j. bit_at-lt x ((j + (30 - c % 30)) % 30)) within
 
-pub turned_by_none : (x : ℕ) → x < 2 ^ 30 → turned_left 30 x 0 ≡ x
+turned_by_none : (x : ℕ) → x < 2 ^ 30 → turned_left 30 x 0 ≡ x
 unfolding turned_left
 turned_by_none x small = sym (made_of_bits 30 x (λ i. bit_at x ((i + (30 - 0 % 30)) % 30)) small (λ i within. ap (bit_at x) (omega arith)))
 
-pub turned_again : (x c d : ℕ) → turned_left 30 (turned_left 30 x c) d ≡ turned_left 30 x (c + d)
+turned_again : (x c d : ℕ) → turned_left 30 (turned_left 30 x c) d ≡ turned_left 30 x (c + d)
 unfolding turned_left
 turned_again x c d = same_bits 30
     (λ i. bit_at (turned_left 30 x c) ((i + (30 - d % 30)) % 30))
@@ -28,7 +28,7 @@ turned_again x c d = same_bits 30
 one_and_more : (a k : ℕ) → turned_left 30 (turned_left 30 a 1) k ≡ turned_left 30 a (suc k)
 one_and_more a k = turned_again a 1 k ∙ (let count : 1 + k ≡ suc k = omega arith in ap (turned_left 30 a) count)
 
--- the turns of a word with all bits the same, and of one with a difference at the top
+-- how many turns a word needs that never gets there, and the cases of the definition
 all_zeros : (most : ℕ) → turns_within most 0 ≡ most
 unfolding turns_within of_bits turned_left
 all_zeros zero = refl
@@ -39,15 +39,15 @@ unfolding turns_within of_bits turned_left
 all_ones zero = refl
 all_ones (suc most) = ap suc (all_ones most)
 
-pub one_turn : (most a : ℕ) → top_bits_agree a ≡ true → turns_within (suc most) a ≡ suc (turns_within most (turned_left 30 a 1))
+one_turn : (most a : ℕ) → top_bits_agree a ≡ true → turns_within (suc most) a ≡ suc (turns_within most (turned_left 30 a 1))
 unfolding turns_within
 one_turn most a agree = rw agree refl
 
-pub no_turn : (most a : ℕ) → top_bits_agree a ≡ false → turns_within (suc most) a ≡ 0
+no_turn : (most a : ℕ) → top_bits_agree a ≡ false → turns_within (suc most) a ≡ 0
 unfolding turns_within
 no_turn most a differ = rw differ refl
 
-pub no_turns : (a : ℕ) → turns_within 0 a ≡ 0
+no_turns : (a : ℕ) → turns_within 0 a ≡ 0
 unfolding turns_within
 no_turns a = refl
 
@@ -95,11 +95,11 @@ of_zeros P plus minus a same = ⊎_elim
     (λ is_minus. subst P (sym (eqb-true a minus_zero is_minus)) minus)
     (or_cases (a == 0) (a == minus_zero) same)
 
-pub zero_scaled : (a : ℕ) → is_zero a ≡ true → scale_factor a ≡ 28
+zero_scaled : (a : ℕ) → is_zero a ≡ true → scale_factor a ≡ 28
 unfolding scale_factor
 zero_scaled a same = of_zeros (λ x. scale_factor x ≡ 28) (all_zeros 28) (all_ones 28) a same
 
-pub zero_turned : (a : ℕ) → is_zero a ≡ true → turned_left 30 a 28 ≡ a
+zero_turned : (a : ℕ) → is_zero a ≡ true → turned_left 30 a 28 ≡ a
 unfolding of_bits turned_left
 zero_turned a same = of_zeros (λ x. turned_left 30 x 28 ≡ x) refl refl a same
 
@@ -122,11 +122,11 @@ one_turn_more a small mixed agree = ⊎_elim
     (λ after. absurd (mixed_after a small mixed agree after))
     (enough 27 (turned_left 30 a 1) (omega arith))
 
--- a turn makes no +0 and no −0 of other words
 turned_fits : (a : ℕ) → turned_left 30 a 1 < 2 ^ 30
 unfolding turned_left
 turned_fits a = of_bits_fit 30 (λ i. bit_at a ((i + (30 - 1 % 30)) % 30)) (λ i. bit_at-lt a ((i + (30 - 1 % 30)) % 30))
 
+-- a turn makes no +0 and no −0 of other words
 still_mixed : (a : ℕ) → a < 2 ^ 30 → is_zero a ≡ false → top_bits_agree a ≡ true → is_zero (turned_left 30 a 1) ≡ false
 still_mixed a small mixed agree = false_from_ne_true (is_zero (turned_left 30 a 1)) (λ same.
     mixed_after a small mixed agree
@@ -184,7 +184,7 @@ pub not_turned : (a : ℕ) → 0 + turns_within (28 - 0) a ≡ scale_factor a
 unfolding scale_factor
 not_turned a = zero-add (turns_within 28 a)
 
--- after c turns that brought a word a to the top: one turn more, none, and no turn left
+-- what the code's loop does after c turns, which made a of the word: a turn more; none, since the highest bits differ; none, since 28 are done
 module _ (c a total : ℕ) (so_far : c + turns_within (28 - c) a ≡ total) where
   pub turned_on : c < 28 → top_bits_agree a ≡ true → c + 1 + turns_within (28 - (c + 1)) (turned_left 30 a 1) ≡ total
   turned_on left agree =

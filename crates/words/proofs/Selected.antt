@@ -1,6 +1,6 @@
 -- What `&`, `|`, `^` and `!` do to each bit is what the selective operations say.
 use Rattle.std.proofs.Common.{ℕ, ◌≡◌, ◌+◌, ◌-◌, ◌%◌, ◌^◌, ◌<◌, min, max, ◌==◌, if◌then◌else◌, arith, ap, ◌∙◌}
-use Rattle.std.proofs.lemmas.Nat.{pow_pos, mod_below}
+use Rattle.std.proofs.lemmas.Nat.{pow_pos, mod_below, and_comm}
 use Rattle.std.proofs.lemmas.Nat.Bits.{bit_at-lt, bit_at_and, bit_at_or, bit_at_xor, bit_at_not}
 use Rattle.std.specs.Int.{bit_at, bit_not, w32}
 use Rattle.std.specs.Int.RustNames.{bit_or, bit_xor}
@@ -30,6 +30,9 @@ module _ (a b : ℕ) (p : a < 2) (q : b < 2) where
 pub product_is : (u v : ℕ) → bit_and u v % 2 ^ 30 ≡ product u v
 unfolding product
 product_is u v = lowest_are (bit_and u v) _ (λ i _. bit_at_and u v i ∙ both (bit_at u i) (bit_at v i) (bit_at-lt u i) (bit_at-lt v i))
+
+pub product_commutes : (u v : ℕ) → bit_and u v % 2 ^ 30 ≡ product v u
+product_commutes u v = ap (λ x. x % 2 ^ 30) (and_comm u v) ∙ product_is v u
 
 pub selective_set_is : (a y : ℕ) → bit_or a y % 2 ^ 30 ≡ selective_set a y
 unfolding selective_set

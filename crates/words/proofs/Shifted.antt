@@ -11,7 +11,7 @@ use Rattle.words.specs.Double.{over, upper_word, lower_word}
 use Rattle.words.specs.Sums.{complement, integer_of}
 use Rattle.std.specs.Prelude.{pos, neg_ℤ, int_div}
 use Rattle.words.specs.Shifts.{shifted_right, shifted_right_with_sign, turned_left}
-use Rattle.words.proofs.BitByBit.{quotient_bit, remainder_bit, made_of_bits, turned_twice, top_bit_zero}
+use Rattle.words.proofs.BitByBit.{quotient_bit, remainder_bit, made_of_bits, turned_over_twice, top_bit_zero}
 
 module _ (n x c : ℕ) (small : x < 2 ^ n) where
   -- a quotient is a shift to the right
@@ -50,9 +50,9 @@ shifted_negative n x c some one_bit small =
     let y = 2 ^ n - 1 - x in
     let positive : 2 * y < 2 ^ n = omega (arith, twice n some) in
     made_of_bits n (2 ^ n - 1 - y / 2 ^ c) _ (omega (arith, pow_pos n)) (λ i within.
-    turned_twice n (y / 2 ^ c) n x i (min (i + c) (n - 1)) (omega (arith, shr_le y c)) within small (omega arith) (positive_bit n y c i positive within))
+    turned_over_twice n (y / 2 ^ c) n x i (min (i + c) (n - 1)) (omega (arith, shr_le y c)) within small (omega arith) (positive_bit n y c i positive within))
 
--- a turn by u, where u and d make n: what leaves 64 bits at the top is not looked at
+-- a turn by u, where u and d make n: what leaves at the top of 64 bits is not looked at
 turned_bit : (n x u d i : ℕ) → u + d ≡ n → u < n → n ≤ 64 → x < 2 ^ n → i < n → max (bit_at (x * 2 ^ u % 2 ^ 64) i) (bit_at (x / 2 ^ d) i) ≡ bit_at x ((i + (n - u)) % n)
 turned_bit n x u d i split inside fits small within =
     let up : bit_at (x * 2 ^ u % 2 ^ 64) i ≡ bit_at (x * 2 ^ u + 0) i = remainder_bit (x * 2 ^ u) 64 i (omega arith) ∙ ap (λ y. bit_at y i) (omega arith) in

@@ -6,9 +6,10 @@ use super::Word;
 
 impl Word {
     // The bits of this word where the other has ones, and zeros elsewhere.
-    #[tactic(auto, using(crate::proofs::Selected::product_is))]
+    #[tactic(auto, using(crate::proofs::Selected::product_is, crate::proofs::Selected::product_commutes))]
     pub fn product(self, v: Word) -> Word
-        ensures { result ≡ product self v }
+        ensures value { result ≡ product self v }
+        ensures commutes { result ≡ product v self }
     {
         Word::new(self.get() & v.get())
     }
