@@ -1,5 +1,5 @@
-// Answers questions of arithmetic: each line of standard input is written to standard output with its answer. What the
-// functions of `words` answer is compared there with vectors that were worked out bit by bit, by another program.
+// Answers questions of arithmetic: each line of standard input is written to standard output with its answer. The gate compares
+// what it writes with vectors that another program worked out bit by bit.
 #![tactic(auto)]
 
 mod answer;

@@ -1,4 +1,4 @@
-mod BitByBit
+pub mod BitByBit
 mod Extended
 mod OctalDigits
 mod Ordered

@@ -1,5 +1,5 @@
 -- With the sign bits turned over, numbers of 60 bits lie in the order of their values.
-use Rattle.std.proofs.Common.{ℕ, suc, sym, not, inl, inr, ◌⊎◌, ◌≢◌, ◌≡◌, ◌+◌, ◌-◌, ◌^◌, ◌<◌, nat_lt, arith, ap, ◌∙◌, ⊎_elim, lt-ltb, le-ltb, ne_eqb, zero-add}
+use Rattle.std.proofs.Common.{ℕ, suc, sym, true, not, inl, inr, ◌⊎◌, ◌≢◌, ◌≡◌, ◌+◌, ◌-◌, ◌^◌, ◌<◌, nat_lt, arith, ap, ◌∙◌, ⊎_elim, lt-ltb, le-ltb, ne_eqb, zero-add}
 use Rattle.std.proofs.lemmas.Bool.{cases_lt}
 use Rattle.std.proofs.lemmas.Int.{ints}
 use Rattle.std.proofs.lemmas.Nat.{xor_block, xor_comm}
@@ -60,3 +60,10 @@ either_way x y p q apart =
     (λ a. ⊎_elim (λ b. omega (arith, a, b, same)) (λ b. omega (arith, a, b, same)) (turned_back y q))
     (turned_back x p)) in
     sym (less_is x y p q) ∙ flipped (bit_xor x (2 ^ 59)) (bit_xor y (2 ^ 59)) still_apart ∙ ap not (less_is y x q p)
+
+pub between : (x y z : ℕ) → x < 2 ^ 60 → y < 2 ^ 60 → z < 2 ^ 60 → less x y ≡ true → less y z ≡ true → less x z ≡ true
+between x y z p q r first second =
+    sym (less_is x z p r) ∙ in_turn (bit_xor x (2 ^ 59)) (bit_xor y (2 ^ 59)) (bit_xor z (2 ^ 59)) (less_is x y p q ∙ first) (less_is y z q r ∙ second)
+  where
+    in_turn : (s t u : ℕ) → nat_lt s t ≡ true → nat_lt t u ≡ true → nat_lt s u ≡ true
+    in_turn s t u first second = grind arith

@@ -7,26 +7,11 @@ use Rattle.words.specs.Bits.{of_bits}
 use Rattle.words.specs.Scale.{is_zero, top_bits_agree, turns_within, scale_factor}
 use Rattle.words.specs.Shifts.{turned_left}
 use Rattle.words.specs.Sums.{minus_zero}
-use Rattle.words.proofs.BitByBit.{made_of_bits, of_bits_fit, bit_of_bits, same_bits}
-
-turned_bit : (x c i : ℕ) → i < 30 → bit_at (turned_left 30 x c) i ≡ bit_at x ((i + (30 - c % 30)) % 30)
-unfolding turned_left
-turned_bit x c i within = bit_of_bits 30 (λ j. bit_at x ((j + (30 - c % 30)) % 30)) i (λ j. bit_at-lt x ((j + (30 - c % 30)) % 30)) within
-
-turned_by_none : (x : ℕ) → x < 2 ^ 30 → turned_left 30 x 0 ≡ x
-unfolding turned_left
-turned_by_none x small = sym (made_of_bits 30 x (λ i. bit_at x ((i + (30 - 0 % 30)) % 30)) small (λ i within. ap (bit_at x) (omega arith)))
-
-turned_again : (x c d : ℕ) → turned_left 30 (turned_left 30 x c) d ≡ turned_left 30 x (c + d)
-unfolding turned_left
-turned_again x c d = same_bits 30
-    (λ i. bit_at (turned_left 30 x c) ((i + (30 - d % 30)) % 30))
-    (λ i. bit_at x ((i + (30 - (c + d) % 30)) % 30))
-    (λ i. bit_at-lt (turned_left 30 x c) ((i + (30 - d % 30)) % 30))
-    (λ i within. turned_bit x c ((i + (30 - d % 30)) % 30) (omega arith) ∙ ap (bit_at x) (omega arith))
+use Rattle.words.proofs.BitByBit.{of_bits_fit}
+use Rattle.words.proofs.Shifted.{bit_of_turned, turned_by_none, turned_again}
 
 one_and_more : (a k : ℕ) → turned_left 30 (turned_left 30 a 1) k ≡ turned_left 30 a (suc k)
-one_and_more a k = turned_again a 1 k ∙ (let count : 1 + k ≡ suc k = omega arith in ap (turned_left 30 a) count)
+one_and_more a k = turned_again 30 a 1 k (omega arith) ∙ (let count : 1 + k ≡ suc k = omega arith in ap (turned_left 30 a) count)
 
 -- how many turns a word needs that never gets there, and the cases of the definition
 all_zeros : (most : ℕ) → turns_within most 0 ≡ most
@@ -57,7 +42,7 @@ Agree k a = (i : ℕ) → i < 30 → 29 ≤ i + k → bit_at a i ≡ bit_at a 29
 
 -- a turn takes each bit one up
 moved_up : (a i : ℕ) → i < 29 → bit_at (turned_left 30 a 1) (suc i) ≡ bit_at a i
-moved_up a i low = turned_bit a 1 (suc i) (omega arith) ∙ (let place : (suc i + (30 - 1 % 30)) % 30 ≡ i = omega arith in ap (bit_at a) place)
+moved_up a i low = bit_of_turned 30 a 1 (suc i) (omega arith) ∙ (let place : (suc i + (30 - 1 % 30)) % 30 ≡ i = omega arith in ap (bit_at a) place)
 
 agree_before : (k a : ℕ) → top_bits_agree a ≡ true → Agree k (turned_left 30 a 1) → Agree (suc k) a
 agree_before k a agree after i within top = ⊎_elim
@@ -108,7 +93,7 @@ by_tests true q x y z w first second third = first refl
 by_tests false true x y z w first second third = second refl refl
 by_tests false false x y z w first second third = third refl refl
 
--- where both are there, no turn makes the bits the same
+-- of a word with both zeros and ones, a turn does not make all bits the same
 mixed_after : (a : ℕ) → a < 2 ^ 30 → is_zero a ≡ false → top_bits_agree a ≡ true → Agree 28 (turned_left 30 a 1) → ⊥
 mixed_after a small mixed agree after = ⊎_elim
     (λ plus. false≢true (sym mixed ∙ ap is_zero plus))
@@ -137,7 +122,7 @@ differ_after : (k a : ℕ) → a < 2 ^ 30 → is_zero a ≡ false → scale_fact
 unfolding scale_factor
 differ_after zero a small mixed turns = ⊎_elim
     (λ agree. absurd (omega (arith, turns, one_turn 27 a agree)))
-    (λ differ. ap top_bits_agree (turned_by_none a small) ∙ differ)
+    (λ differ. ap top_bits_agree (turned_by_none 30 a (omega arith) small) ∙ differ)
     (cases_Bool (top_bits_agree a))
 differ_after (suc k) a small mixed turns = ⊎_elim
     (λ agree.
@@ -151,7 +136,7 @@ differ_after (suc k) a small mixed turns = ⊎_elim
 agree_within : (most a : ℕ) → a < 2 ^ 30 → (k : ℕ) → k < turns_within most a → top_bits_agree (turned_left 30 a k) ≡ true
 agree_within zero a small k left = absurd (omega (arith, no_turns a))
 agree_within (suc most) a small zero left = ⊎_elim
-    (λ agree. ap top_bits_agree (turned_by_none a small) ∙ agree)
+    (λ agree. ap top_bits_agree (turned_by_none 30 a (omega arith) small) ∙ agree)
     (λ differ. absurd (omega (arith, left, no_turn most a differ)))
     (cases_Bool (top_bits_agree a))
 agree_within (suc most) a small (suc k) left = ⊎_elim
@@ -177,14 +162,16 @@ pub at_most_28 : (a k : ℕ) → k ≡ scale_factor a → k ≤ 28
 unfolding scale_factor
 at_most_28 a k turns = omega (arith, turns, within 28 a)
 
-pub zero_left : (a w k : ℕ) → is_zero a ≡ true → k ≡ scale_factor a → w ≡ turned_left 30 a k → w ≡ a
-zero_left a w k same turns turned = turned ∙ ap (turned_left 30 a) (turns ∙ zero_scaled a same) ∙ zero_turned a same
+pub zero_left : (a w k : ℕ) → is_zero a ≡ true → k ≡ scale_factor a → w ≡ turned_left 30 a k → (w ≡ a) × (k ≡ 28)
+zero_left a w k same turns turned =
+    let all : k ≡ 28 = turns ∙ zero_scaled a same in
+    (turned ∙ ap (turned_left 30 a) all ∙ zero_turned a same, all)
 
 pub not_turned : (a : ℕ) → 0 + turns_within (28 - 0) a ≡ scale_factor a
 unfolding scale_factor
 not_turned a = zero-add (turns_within 28 a)
 
--- what the code's loop does after c turns, which made a of the word: a turn more; none, since the highest bits differ; none, since 28 are done
+-- after c turns, which made the word a: its highest bits agree, and it is turned once more; they differ, and c is the count; or c is 28
 module _ (c a total : ℕ) (so_far : c + turns_within (28 - c) a ≡ total) where
   pub turned_on : c < 28 → top_bits_agree a ≡ true → c + 1 + turns_within (28 - (c + 1)) (turned_left 30 a 1) ≡ total
   turned_on left agree =

@@ -2,8 +2,8 @@
 use Rattle.std.proofs.Common.{ℕ, zero, suc, refl, ◌≡◌, ◌≢◌, ◌+◌, ◌-◌, ◌*◌, ◌/◌, ◌%◌, ◌^◌, ◌<◌, ◌≤◌, nat_lt, if◌then◌else◌, arith, lt-ltb, le-ltb, min, max, ap, sym, ◌∙◌, pow-suc, ⊎_elim}
 use Rattle.std.proofs.lemmas.Bool.{cases_lt}
 use Rattle.std.proofs.lemmas.Nat.{pow_pos, mod_below, shr_le, le-div}
-use Rattle.std.proofs.Math.Nat.{mod-eq_of_lt, add-mod_left, zero-div, div-eq_of_lt, pow-le-pow_right}
-use Rattle.std.proofs.lemmas.Nat.Bits.{bit_at_cat_low, bit_at_cat_high, bit_at_above, bit_at-zero, bit_at_or}
+use Rattle.std.proofs.Math.Nat.{mod-eq_of_lt, add-mod_left, add-mod_right, mod-add-mod, add-mod-mod, zero-div, div-eq_of_lt, pow-le-pow_right}
+use Rattle.std.proofs.lemmas.Nat.Bits.{bit_at_cat_low, bit_at_cat_high, bit_at_above, bit_at-zero, bit_at-lt, bit_at_or}
 use Rattle.std.specs.Int.{bit_at}
 use Rattle.std.specs.Int.RustNames.{bit_or}
 use Rattle.words.specs.Bits.{of_bits}
@@ -11,7 +11,7 @@ use Rattle.words.specs.Double.{over, upper_word, lower_word}
 use Rattle.words.specs.Sums.{complement, integer_of}
 use Rattle.std.specs.Prelude.{pos, neg_ℤ, int_div}
 use Rattle.words.specs.Shifts.{shifted_right, shifted_right_with_sign, turned_left}
-use Rattle.words.proofs.BitByBit.{quotient_bit, remainder_bit, made_of_bits, turned_over_twice, top_bit_zero}
+use Rattle.words.proofs.BitByBit.{quotient_bit, remainder_bit, made_of_bits, bit_of_bits, same_bits, turned_over_twice, top_bit_zero}
 
 module _ (n x c : ℕ) (small : x < 2 ^ n) where
   -- a quotient is a shift to the right
@@ -91,6 +91,52 @@ quotient_capped n x c wide small = ⊎_elim
 pub turned_remainder : (n x c : ℕ) → 0 < n → turned_left n x (c % n) ≡ turned_left n x c
 unfolding turned_left
 turned_remainder n x c some = ap (λ u. of_bits n (λ i. bit_at x ((i + (n - u)) % n))) (mod-eq_of_lt (mod_below c n some))
+
+pub turned_by_none : (n x : ℕ) → 0 < n → x < 2 ^ n → turned_left n x 0 ≡ x
+unfolding turned_left
+turned_by_none n x some small = sym (made_of_bits n x (λ i. bit_at x ((i + (n - 0 % n)) % n)) small (λ i within.
+    let whole : n - 0 % n ≡ n = omega (arith, mod-eq_of_lt {n = 0} some) in
+    let place : (i + (n - 0 % n)) % n ≡ i = ap (λ u. (i + u) % n) whole ∙ add-mod_right i n ∙ mod-eq_of_lt within in
+    ap (bit_at x) (sym place)))
+
+-- turns add up
+place_again : (n i c d : ℕ) → 0 < n → ((i + (n - d % n)) % n + (n - c % n)) % n ≡ (i + (n - (c + d) % n)) % n
+place_again n i c d some =
+    let u = c % n in
+    let v = d % n in
+    let low_u : u < n = mod_below c n some in
+    let low_v : v < n = mod_below d n some in
+    let total : (c + d) % n ≡ (u + v) % n = sym (mod-add-mod c n d) ∙ sym (add-mod-mod u d n) in
+    mod-add-mod (i + (n - v)) n (n - u) ∙ ⊎_elim
+    (λ few.
+    let sum : (c + d) % n ≡ u + v = total ∙ mod-eq_of_lt few in
+    let once : i + (n - v) + (n - u) ≡ n + (i + (n - (c + d) % n)) = omega (arith, sum) in
+    ap (λ k. k % n) once ∙ add-mod_left n (i + (n - (c + d) % n)))
+    (λ many.
+    let over : u + v ≡ n + (u + v - n) = omega arith in
+    let sum : (c + d) % n ≡ u + v - n = total ∙ ap (λ k. k % n) over ∙ add-mod_left n (u + v - n) ∙ mod-eq_of_lt (omega arith) in
+    let once : i + (n - v) + (n - u) ≡ i + (n - (c + d) % n) = omega (arith, sum) in
+    ap (λ k. k % n) once)
+    (cases_lt (u + v) n)
+
+pub bit_of_turned : (n x c i : ℕ) → i < n → bit_at (turned_left n x c) i ≡ bit_at x ((i + (n - c % n)) % n)
+unfolding turned_left
+bit_of_turned n x c i within = bit_of_bits n (λ j. bit_at x ((j + (n - c % n)) % n)) i (λ j. bit_at-lt x ((j + (n - c % n)) % n)) within
+
+pub turned_again : (n x c d : ℕ) → 0 < n → turned_left n (turned_left n x c) d ≡ turned_left n x (c + d)
+unfolding turned_left
+turned_again n x c d some = same_bits n
+    (λ i. bit_at (turned_left n x c) ((i + (n - d % n)) % n))
+    (λ i. bit_at x ((i + (n - (c + d) % n)) % n))
+    (λ i. bit_at-lt (turned_left n x c) ((i + (n - d % n)) % n))
+    (λ i within. bit_of_turned n x c ((i + (n - d % n)) % n) (mod_below (i + (n - d % n)) n some) ∙ ap (bit_at x) (place_again n i c d some))
+
+-- the same of what a turn gave
+pub no_turn : (n x c r : ℕ) → 0 < n → x < 2 ^ n → r ≡ turned_left n x c → c ≡ 0 → r ≡ x
+no_turn n x c r some small turned none = turned ∙ ap (turned_left n x) none ∙ turned_by_none n x some small
+
+pub one_more_turn : (n x c d r : ℕ) → 0 < n → r ≡ turned_left n x c → turned_left n r d ≡ turned_left n x (c + d)
+one_more_turn n x c d r some turned = ap (λ y. turned_left n y d) turned ∙ turned_again n x c d some
 
 -- a turn of 60 bits by 30
 pub turned_half : (x c : ℕ) → x < 2 ^ 60 → c ≡ 30 → turned_left 60 x c ≡ over (lower_word x) (upper_word x)

@@ -49,7 +49,8 @@ impl DoubleWord {
 
     // Bits 29 to 0.
     pub fn lower(self) -> Word
-        ensures { result ≡ lower_word self }
+        ensures value { result ≡ lower_word self }
+        ensures whole { over (upper_word self) result ≡ self }
     {
         Word::new(lowest::<30>(self.number) as u32)
     }

@@ -2,7 +2,7 @@
 ghost use Rattle.std.specs.Prelude.{◌≡◌, ◌-◌, ◌%◌, ◌^◌, ◌<◌, ◌≤◌};
 
 // The lowest N bits.
-pub(crate) const fn lowest<const N: u32>(x: u64) -> u64
+pub(crate) fn lowest<const N: u32>(x: u64) -> u64
     requires { N ≤ 60 }
     ensures value { result ≡ x % 2 ^ N }
     ensures small { result < 2 ^ N }
@@ -11,7 +11,7 @@ pub(crate) const fn lowest<const N: u32>(x: u64) -> u64
 }
 
 // N ones.
-pub(crate) const fn ones<const N: u32>() -> u64
+pub(crate) fn ones<const N: u32>() -> u64
     requires { N ≤ 60 }
     ensures { result ≡ 2 ^ N - 1 }
 {

@@ -41,7 +41,7 @@ impl Word {
         ensures count { result.count ≡ scale_factor self }
         ensures word { result.word ≡ turned_left 30 self result.count }
         ensures most { result.count ≤ 28 }
-        ensures zero { is_zero self ≡ true → result.word ≡ self }
+        ensures zero { is_zero self ≡ true → (result.word ≡ self) × (result.count ≡ 28) }
         ensures agree { (k : ℕ) → k < result.count → top_bits_agree (turned_left 30 self k) ≡ true }
         ensures differ { is_zero self ≡ false → top_bits_agree result.word ≡ false }
         ensures rule { scale_factor self ≡ (if is_zero self then 28 else (if top_bits_agree self then suc (scale_factor (turned_left 30 self 1)) else 0)) }

@@ -1,6 +1,6 @@
 // Shifts and turns of a word and of two words, each written once for a number of N bits. A count of N or more shifts every bit out, and turns by what
 // whole turns leave of it.
-ghost use Rattle.std.specs.Prelude.{◌≡◌, ◌/◌, ◌%◌, ◌^◌, ◌<◌, ◌≤◌, pos, int_div};
+ghost use Rattle.std.specs.Prelude.{◌≡◌, ℕ, ◌+◌, ◌/◌, ◌%◌, ◌^◌, ◌<◌, ◌≤◌, pos, int_div};
 ghost use Rattle.words.specs.Double.{over, upper_word, lower_word};
 ghost use Rattle.words.specs.Sums.{integer_of};
 ghost use Rattle.words.specs.Shifts.{shifted_right, shifted_right_with_sign, turned_left};
@@ -36,11 +36,14 @@ fn shifted_right_with_sign<const N: u32>(x: u64, count: u32) -> u64
     }
 }
 
-#[tactic(auto, using(crate::proofs::Shifted::turned_is))]
+#[tactic(auto, using(crate::proofs::Shifted::turned_is, crate::proofs::Shifted::turned_remainder, crate::proofs::Shifted::no_turn, crate::proofs::Shifted::one_more_turn))]
 fn turned_left<const N: u32>(x: u64, count: u32) -> u64
     requires number { x < 2 ^ N }
     requires width { (0 < N) × (N ≤ 60) }
     ensures value { result ≡ turned_left N x count }
+    ensures none { count ≡ 0 → result ≡ x }
+    ensures remainder { result ≡ turned_left N x (count % N) }
+    ensures again { (d : ℕ) → turned_left N result d ≡ turned_left N x (count + d) }
     ensures small { result < 2 ^ N }
 {
     let up = count % N;
@@ -65,10 +68,11 @@ impl Word {
     }
 
     // To the left, and what leaves at the top comes in at the bottom.
-    #[tactic(auto, using(crate::proofs::Shifted::turned_remainder))]
     pub fn turned_left(self, count: u32) -> Word
         ensures value { result ≡ turned_left 30 self count }
+        ensures none { count ≡ 0 → result ≡ self }
         ensures remainder { result ≡ turned_left 30 self (count % 30) }
+        ensures again { (d : ℕ) → turned_left 30 result d ≡ turned_left 30 self (count + d) }
     {
         Word::new(turned_left::<30>(self.get().into(), count) as u32)
     }
@@ -91,10 +95,12 @@ impl DoubleWord {
     }
 
     // By 30 it exchanges the two words.
-    #[tactic(auto, using(crate::proofs::Shifted::turned_remainder, crate::proofs::Shifted::turned_half))]
+    #[tactic(auto, using(crate::proofs::Shifted::turned_half))]
     pub fn turned_left(self, count: u32) -> DoubleWord
         ensures value { result ≡ turned_left 60 self count }
+        ensures none { count ≡ 0 → result ≡ self }
         ensures remainder { result ≡ turned_left 60 self (count % 60) }
+        ensures again { (d : ℕ) → turned_left 60 result d ≡ turned_left 60 self (count + d) }
         ensures exchanged { count ≡ 30 → result ≡ over (lower_word self) (upper_word self) }
     {
         DoubleWord::new(turned_left::<60>(self.get(), count))

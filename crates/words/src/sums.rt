@@ -5,7 +5,7 @@ ghost use Rattle.words.specs.Sums.{complement, difference, integer_of, minus_zer
 use super::Word;
 
 // Thirty ones, 2^30 − 1: as a word, −0.
-pub(crate) const ONES: u32 = 0o7777777777;
+const ONES: u32 = 0o7777777777;
 
 impl Word {
     // This word less another. Only −0 less +0 is −0.
