@@ -6,10 +6,10 @@ use Rattle.std.proofs.Math.Nat.{mod-eq_of_lt, add-mod_left, add-mod_right, mod-a
 use Rattle.std.proofs.lemmas.Nat.Bits.{bit_at_cat_low, bit_at_cat_high, bit_at_above, bit_at-zero, bit_at-lt, bit_at_or}
 use Rattle.std.specs.Int.{bit_at}
 use Rattle.std.specs.Int.RustNames.{bit_or}
+use Rattle.std.specs.Prelude.{pos, neg_ℤ, int_div}
 use Rattle.words.specs.Bits.{of_bits}
 use Rattle.words.specs.Double.{over, upper_word, lower_word}
 use Rattle.words.specs.Sums.{complement, integer_of}
-use Rattle.std.specs.Prelude.{pos, neg_ℤ, int_div}
 use Rattle.words.specs.Shifts.{shifted_right, shifted_right_with_sign, turned_left}
 use Rattle.words.proofs.BitByBit.{quotient_bit, remainder_bit, made_of_bits, bit_of_bits, same_bits, turned_over_twice, top_bit_zero}
 
