@@ -1,0 +1,3 @@
+mod Again
+pub mod Fitting
+mod Read
