@@ -1,6 +1,7 @@
 -- The registers that are read of a record fit.
-use Rattle.std.proofs.Common.{ℕ, ◌≡◌, ◌^◌, ◌<◌, Bool, true, false, not, ◌==◌, nat_lt, if◌then◌else◌, List, [], ◌∷◌, length, Option, Some, None, Result, Ok, Err, refl, arith}
+use Rattle.std.proofs.Common.{ℕ, ◌≡◌, ◌^◌, ◌<◌, Bool, true, false, nat_lt, if◌then◌else◌, List, [], ◌∷◌, Option, Some, None, Result, Err, refl, arith}
 use Rattle.std.specs.List.{AllByRecursion}
+use Rattle.std.specs.Prelude.{IfOk}
 use Rattle.std.specs.Option.{option_or}
 use Rattle.records.specs.Record.{record_read, registers_in, too_wide, fields_read, first_wide, b_fields, two_at, four_at}
 use Rattle.records.specs.Registers.{Registers, Fits}
@@ -33,18 +34,14 @@ registers_fit bytes none =
     let fit_p = none_wide 17 (four_at bytes) (25 ∷ []) p in
     (fit_aq.0, fit_aq.1.0, refl, none_wide 15 (two_at bytes) b_fields b, fit_p.0)
 
-abbrev pub FitsIfRead : Result Registers RecordFault → Type 0
-FitsIfRead (Ok r) = Fits r
-FitsIfRead (Err e) = Unit {0}
-
-unless : (b : Bool) (e : RecordFault) (r : Result Registers RecordFault) → FitsIfRead r → FitsIfRead (if b then Err e else r)
+unless : (b : Bool) (e : RecordFault) (r : Result Registers RecordFault) → IfOk r Fits → IfOk (if b then Err e else r) Fits
 unless true e r fits = tt
 unless false e r fits = fits
 
-fields_fit : (bytes : List ℕ) (wide : Option ℕ) → (wide ≡ None → Fits (registers_in bytes)) → FitsIfRead (fields_read bytes wide)
+fields_fit : (bytes : List ℕ) (wide : Option ℕ) → (wide ≡ None → Fits (registers_in bytes)) → IfOk (fields_read bytes wide) Fits
 fields_fit bytes None fits = fits refl
 fields_fit bytes (Some at) fits = tt
 
-pub read_fits : (bytes : List ℕ) → FitsIfRead (record_read bytes)
+pub read_fits : (bytes : List ℕ) → IfOk (record_read bytes) Fits
 unfolding record_read
 read_fits bytes = search (unless, fields_fit, registers_fit)

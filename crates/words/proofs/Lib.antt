@@ -5,3 +5,4 @@ mod Ordered
 mod Scaling
 mod Selected
 mod Shifted
+pub mod Widths

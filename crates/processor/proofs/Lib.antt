@@ -1,0 +1,6 @@
+mod Chosen
+mod EffectsFit
+pub mod Fitting
+mod Found
+pub mod Kept
+mod Registered

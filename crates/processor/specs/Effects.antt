@@ -1,0 +1,75 @@
+-- What an instruction comes to that is not interrupted: the registers but for P, what it puts, and where the program goes on. Nothing is put before all that is put has been tried.
+use Rattle.std.specs.Prelude.{ℕ, ◌+◌, Bool, if◌then◌else◌, List, [], ◌∷◌, Result, Ok}
+use Rattle.words.specs.Words.{lower_half}
+use Rattle.store.specs.Cells.{Cell}
+use Rattle.store.specs.declared.half.Half.{Half}
+use Rattle.store.specs.declared.half.Half.TheVariants.{Upper, Lower}
+use Rattle.store.specs.Functions.{put_whole_answer, put_half_answer, whole_put, half_put}
+use Rattle.records.specs.Registers.{Registers}
+use Rattle.processor.specs.declared.report.ReferenceKind.TheVariants.{Write}
+use Rattle.processor.specs.declared.report.Report.{Report}
+use Rattle.processor.specs.Digits.{by_digit}
+use Rattle.processor.specs.Machine.{Machine}
+use Rattle.processor.specs.References.{refer}
+use Rattle.processor.specs.Then.{◌>>=◌}
+
+-- a word, or a number in one half of a word, at a relative address
+pub data Put : Type 0 where
+  whole : ℕ → ℕ → Put
+  half : ℕ → Half → ℕ → Put
+
+-- the next P: P + 1, P + 2, or the target of a jump
+pub data Next : Type 0 where
+  onward : Next
+  skipping : Next
+  jumping : ℕ → Next
+
+pub record Effect : Type 0 where
+  pub registers : Registers
+  pub puts : List Put
+  pub next : Next
+
+abbrev pub next_p : Next → ℕ → ℕ
+next_p onward p = p + 1
+next_p skipping p = p + 2
+next_p (jumping target) p = target
+
+-- P + 2 if a test holds, and otherwise P + 1
+abbrev pub skip_if : Bool → Next
+skip_if test = if test then skipping else onward
+
+-- the registers are as given, nothing is put, and the program goes on there
+abbrev pub leaving : Registers → Next → Effect
+leaving r next = record { registers = r; puts = []; next = next }
+
+-- each put is tried as a reference that writes, in order
+abbrev pub put_tried : Machine → Put → Result (Unit {0}) Report
+put_tried m (whole r w) = refer m Write r (put_whole_answer m.words r)
+put_tried m (half r h x) = refer m Write r (put_half_answer m.words r h)
+
+abbrev pub puts_tried : Machine → List Put → Result (Unit {0}) Report
+puts_tried m [] = Ok tt
+puts_tried m (p ∷ ps) = do
+  done ← put_tried m p
+  puts_tried m ps
+
+-- the words with all of them done
+abbrev pub put_done : List Cell → Put → List Cell
+put_done words (whole r w) = whole_put words r w
+put_done words (half r h x) = half_put words r h x
+
+abbrev pub puts_done : List Cell → List Put → List Cell
+puts_done words [] = words
+puts_done words (p ∷ ps) = puts_done (put_done words p) ps
+
+-- what an instruction stores at an address by k, of a word and, for k of 5 to 7, another one in its place: in the lower half, in the upper half, or whole
+abbrev pub stored : ℕ → ℕ → (word other : ℕ) → List Put
+stored k r word other = by_digit k
+    []
+    (half r Lower (lower_half word) ∷ [])
+    (half r Upper (lower_half word) ∷ [])
+    (whole r word ∷ [])
+    []
+    (half r Lower (lower_half other) ∷ [])
+    (half r Upper (lower_half other) ∷ [])
+    (whole r other ∷ [])

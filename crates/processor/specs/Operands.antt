@@ -1,0 +1,46 @@
+-- The effective address ȳ and the operand Y of an instruction.
+use Rattle.std.specs.Prelude.{ℕ, ◌+◌, ◌%◌, ◌^◌, Result, Ok}
+use Rattle.words.specs.Words.{upper_half, lower_half}
+use Rattle.words.specs.Extension.{extended}
+use Rattle.processor.specs.declared.report.Report.{Report}
+use Rattle.processor.specs.Digits.{by_digit}
+use Rattle.processor.specs.Fields.{Fields}
+use Rattle.processor.specs.Machine.{Machine, index}
+use Rattle.processor.specs.References.{read}
+use Rattle.processor.specs.Then.{◌>>=◌}
+
+-- y and Bb, modulo 32,768
+abbrev pub effective : Machine → Fields → ℕ
+effective m i = (i.y + index m.registers i.b) % 2 ^ 15
+
+-- the word that is n words further on, modulo 32,768
+abbrev pub further : Machine → Fields → ℕ → ℕ
+further m i n = (effective m i + n) % 2 ^ 15
+
+-- the halves of the word at ȳ; its whole cell is read
+abbrev pub lower_read : Machine → ℕ → Result ℕ Report
+lower_read m r = do
+  w ← read m r
+  Ok (lower_half w)
+
+abbrev pub upper_read : Machine → ℕ → Result ℕ Report
+upper_read m r = do
+  w ← read m r
+  Ok (upper_half w)
+
+abbrev pub extension : Result ℕ Report → Result ℕ Report
+extension half = do
+  x ← half
+  Ok (extended 15 x)
+
+-- Y by k: ȳ itself; the lower half, the upper half of the word at ȳ; that word; the first three again with bit 14 copied upwards; A
+abbrev pub operand : Machine → Fields → Result ℕ Report
+operand m i = let y = effective m i in by_digit i.k
+    (Ok y)
+    (lower_read m y)
+    (upper_read m y)
+    (read m y)
+    (Ok (extended 15 y))
+    (extension (lower_read m y))
+    (extension (upper_read m y))
+    (Ok m.registers.a)

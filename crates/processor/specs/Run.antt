@@ -1,0 +1,24 @@
+-- A run: steps until the budget is spent or one interrupts.
+use Rattle.std.specs.Prelude.{ℕ, zero, suc}
+use Rattle.processor.specs.declared.outcome.Ending.TheVariants.{Spent, Interrupted}
+use Rattle.processor.specs.declared.outcome.Ran.{Ran}
+use Rattle.processor.specs.Machine.{Machine}
+use Rattle.processor.specs.Step.{Stepped, completed, interrupted, step}
+
+-- what is told of the run, and the machine after it
+pub record Outcome : Type 0 where
+  pub told : Ran
+  pub machine : Machine
+
+-- with one step more, before the others
+abbrev pub one_more : Outcome → Outcome
+one_more o = record { told = record { steps = suc o.told.steps; ending = o.told.ending }; machine = o.machine }
+
+-- the rest of a run goes on after a step that was completed
+abbrev pub run_on : Stepped → (Machine → Outcome) → Outcome
+run_on (completed m) rest = one_more (rest m)
+run_on (interrupted report m) rest = record { told = record { steps = 1; ending = Interrupted report }; machine = m }
+
+unfoldable pub run : ℕ → Machine → Outcome
+run zero m = record { told = record { steps = 0; ending = Spent }; machine = m }
+run (suc budget) m = run_on (step m) (run budget)
