@@ -1,0 +1,65 @@
+-- Admitting a worker, retiring it, and its span.
+use Rattle.std.specs.Prelude.{ℕ, ◌+◌, Bool, true, false, not, ◌&&◌, List, length, nat_lt, nat_le, slice_set, Result, Ok, Option, Some, None}
+use Rattle.std.specs.List.{list_any}
+use Rattle.store.specs.declared.address.CellAddress.{CellAddress}
+use Rattle.records.specs.Registers.{starting_at}
+use Rattle.processor.specs.Then.{◌>>=◌}
+use Rattle.engine.specs.declared.answer.Answer.{Answer}
+use Rattle.engine.specs.declared.answer.Answer.TheVariants as answer
+use Rattle.engine.specs.declared.call.Terms.{Terms}
+use Rattle.engine.specs.declared.place.Place.{Place}
+use Rattle.engine.specs.declared.place.Place.TheVariants.{Free, Ready, Held}
+use Rattle.engine.specs.declared.place.Span.{Span}
+use Rattle.engine.specs.declared.place.Worker.{Worker}
+use Rattle.engine.specs.declared.refusal.Refusal.{Refusal}
+use Rattle.engine.specs.declared.refusal.Refusal.TheVariants as refusal
+use Rattle.engine.specs.Installation.{Installation, place_at, worker_of, holder}
+use Rattle.engine.specs.Refusals.{require}
+
+-- an answer, and the installation after it
+pub record Done : Type 0 where
+  pub answer : Answer (List ℕ)
+  pub installation : Installation
+
+abbrev pub is_free : Place → Bool
+is_free Free = true
+is_free (Ready w) = false
+is_free (Held w report) = false
+
+-- two spans share a cell
+abbrev pub share : Span → Span → Bool
+share s t = nat_lt s.lower.0 (t.lower.0 + t.length) && nat_lt t.lower.0 (s.lower.0 + s.length)
+
+abbrev pub shares : Span → Option Worker → Bool
+shares span None = false
+shares span (Some w) = share span w.span
+
+-- a span shares a cell with the worker of some place
+abbrev pub is_taken : Span → List Place → Bool
+is_taken span places = list_any (λ place. shares span (worker_of place)) places
+
+-- a ready worker: P is the entry, all other registers are 0, and its words are what the cells hold
+abbrev pub admit : Installation → ℕ → CellAddress → Terms → Result Done Refusal
+admit i p lower terms = let span : Span = record { lower = lower; length = terms.length } in do
+  exists ← require (nat_le p 7) refusal.NoSuchPlace
+  free ← require (is_free (place_at i.places p)) refusal.PlaceTaken
+  good ← require (nat_le 1 terms.length && nat_le terms.length 32768) refusal.BadLength
+  inside ← require (nat_le (lower.0 + terms.length) (length i.row)) refusal.PastStore
+  apart ← require (not (is_taken span i.places)) refusal.CellTaken
+  below ← require (nat_lt terms.entry.0 terms.length) refusal.EntryPastLength
+  Ok (record {
+    answer = answer.Admitted (Ok tt);
+    installation = record i { places = slice_set i.places p (Ready (record { span = span; registers = starting_at terms.entry.0 })) };
+  })
+
+-- the place is free again, and the cells stay
+abbrev pub retire : Installation → ℕ → Result Done Refusal
+retire i p = do
+  h ← holder i p
+  Ok (record { answer = answer.Retired (Ok tt); installation = record i { places = slice_set i.places p Free } })
+
+-- the lower limit and the length
+abbrev pub span_of : Installation → ℕ → Result Done Refusal
+span_of i p = do
+  h ← holder i p
+  Ok (record { answer = answer.Spanned (Ok h.span); installation = i })

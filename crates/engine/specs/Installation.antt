@@ -1,0 +1,71 @@
+-- An installation: a row of cells, and eight places for workers in it.
+use Rattle.std.specs.Prelude.{ℕ, ◌+◌, List, ◌++◌, take, drop, replicate, nat_le, slice_index_or, slice_set, Result, Ok, Err, Option, Some, None}
+use Rattle.store.specs.Cells.{Cell}
+use Rattle.processor.specs.Then.{◌>>=◌}
+use Rattle.engine.specs.declared.answer.State.{State}
+use Rattle.engine.specs.declared.answer.State.TheVariants as state
+use Rattle.engine.specs.declared.place.Place.{Place}
+use Rattle.engine.specs.declared.place.Place.TheVariants.{Free, Ready, Held}
+use Rattle.engine.specs.declared.place.Span.{Span}
+use Rattle.engine.specs.declared.place.Worker.{Worker}
+use Rattle.engine.specs.declared.refusal.Refusal.{Refusal}
+use Rattle.engine.specs.declared.refusal.Refusal.TheVariants.{NoSuchPlace, PlaceFree}
+use Rattle.engine.specs.Own.{Own}
+use Rattle.engine.specs.Refusals.{require}
+
+pub record Installation : Type 0 where
+  pub row : List Cell
+  pub places : List Place
+
+-- a new one: all places are free
+abbrev pub made : List Cell → Installation
+made row = record { row = row; places = replicate 8 Free }
+
+abbrev pub place_at : List Place → ℕ → Place
+place_at places p = slice_index_or places p Free
+
+abbrev pub worker_of : Place → Option Worker
+worker_of Free = None
+worker_of (Ready w) = Some w
+worker_of (Held w report) = Some w
+
+abbrev pub worker_at : Installation → ℕ → Option Worker
+worker_at i p = worker_of (place_at i.places p)
+
+-- the words of so many cells of a row, from a lower limit on
+abbrev pub words_in : List Cell → (lower length : ℕ) → List Cell
+words_in row lower n = take n (drop lower row)
+
+-- and the row with other words there
+abbrev pub row_with : List Cell → (lower length : ℕ) → List Cell → List Cell
+row_with row lower n words = take lower row ++ words ++ drop (lower + n) row
+
+-- a worker as it sees itself, if the place has one
+pub record Holder : Type 0 where
+  pub span : Span
+  pub own : Own
+
+abbrev pub holder_of : List Cell → State → Worker → Holder
+holder_of row s w = record { span = w.span; own = record { state = s; registers = w.registers; words = words_in row w.span.lower.0 w.span.length } }
+
+abbrev pub if_taken : List Cell → Place → Result Holder Refusal
+if_taken row Free = Err PlaceFree
+if_taken row (Ready w) = Ok (holder_of row state.Ready w)
+if_taken row (Held w report) = Ok (holder_of row (state.Held report) w)
+
+abbrev pub holder : Installation → ℕ → Result Holder Refusal
+holder i p = do
+  exists ← require (nat_le p 7) NoSuchPlace
+  if_taken i.row (place_at i.places p)
+
+-- the place of a worker, by its state
+abbrev pub place_by : State → Worker → Place
+place_by state.Ready w = Ready w
+place_by (state.Held report) w = Held w report
+
+-- the installation with a worker at a place as it is afterwards: its state and registers in the place, and its words in the row
+abbrev pub with_own : Installation → ℕ → Span → Own → Installation
+with_own i p span own = record {
+  row = row_with i.row span.lower.0 span.length own.words;
+  places = slice_set i.places p (place_by own.state (record { span = span; registers = own.registers }));
+}
