@@ -5,3 +5,6 @@ pub mod FixedAddress
 pub mod Installation
 pub mod Admission
 pub mod Performing
+pub mod Exchanges
+pub mod Isolation
+pub mod Laws

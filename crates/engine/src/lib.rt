@@ -3,10 +3,15 @@
 
 mod answer;
 mod call;
+mod laws;
 mod place;
 mod refusal;
 
 pub use answer::{Answer, State, Told};
 pub use call::{Call, Request, Terms};
+pub use laws::{
+    definition_isolates_workers, definition_keeps_registers_in_their_widths,
+    definition_keeps_workers_apart, definition_leaves_all_on_refusal,
+};
 pub use place::{Place, Span, Worker};
 pub use refusal::Refusal;

@@ -1,0 +1,83 @@
+-- Every call, and so every history from the making, leaves a sound installation.
+use Rattle.std.proofs.Common.{ℕ, ◌≡◌, ◌+◌, not, ◌&&◌, List, [], ◌∷◌, length, nat_le, nat_lt, Result, Ok, Err, arith, ◌∙◌, ap}
+use Rattle.engine.specs.declared.call.Call.{Call}
+use Rattle.engine.specs.declared.call.Call.TheVariants as call
+use Rattle.engine.specs.declared.call.Request.{Request}
+use Rattle.engine.specs.declared.call.Terms.{Terms}
+use Rattle.engine.specs.declared.place.Span.{Span}
+use Rattle.engine.specs.declared.refusal.Refusal.{Refusal}
+use Rattle.engine.specs.declared.refusal.Refusal.TheVariants as refusal
+use Rattle.store.specs.declared.address.CellAddress.{CellAddress}
+use Rattle.engine.specs.Admission.{Done, admit, retire, span_of, is_free, is_taken}
+use Rattle.engine.specs.FixedAddress.{fixed_address}
+use Rattle.engine.specs.Exchanges.{after}
+use Rattle.engine.specs.Installation.{Installation, Holder, holder, place_at}
+use Rattle.engine.specs.Performing.{ask, taken, refused, taken_or_refused, performed}
+use Rattle.engine.specs.Serving.{Served, served}
+use Rattle.engine.proofs.Places.{holder_span, holder_holds}
+use Rattle.engine.proofs.Results.{OkIs, then_ok, ok_is, required_then}
+use Rattle.engine.proofs.Rows.{words_number}
+use Rattle.engine.proofs.Served.{served_kept}
+use Rattle.engine.proofs.Sound.{Sound, Lies, asked_sound, retired_sound, admitted_sound}
+
+-- what holds of a refused call, and of a call that is taken, holds of every call
+by_result : (P : Done → Type 0) (i : Installation) (c : Call (List ℕ)) (r : Result Done Refusal) → ((e : Refusal) → P (record { answer = refused c e; installation = i })) → OkIs P r → P (taken_or_refused i c r)
+by_result P i c (Ok t) if_refused if_taken = if_taken
+by_result P i c (Err e) if_refused if_taken = if_refused e
+
+pub of_call : (P : Done → Type 0) (i : Installation) (c : Call (List ℕ)) → ((e : Refusal) → P (record { answer = refused c e; installation = i })) → OkIs P (taken i c) → P (performed i c)
+unfolding performed
+of_call P i c = by_result P i c (taken i c)
+
+-- a worker lies in the row, and one that was served has as many words as its length
+module _ (i : Installation) (sound : Sound i) (p : ℕ) (h : Holder) (held : holder i p ≡ Ok h) where
+  pub its_lies : Lies i.row h.span
+  its_lies = sound.lies p h.span (holder_span i p h held).1
+
+  its_words : length h.own.words ≡ h.span.length
+  its_words = ap length (ok_is _ (holder i p) h held (holder_holds i p)).1.words_are ∙ words_number i.row h.span.lower.0 h.span.length its_lies.inside
+
+  pub as_many : (what : Request (List ℕ)) (s : Served) → served h.span.length h.own what ≡ Ok s → length s.own.words ≡ h.span.length
+  as_many what s gave = ok_is (λ s. length s.own.words ≡ length h.own.words) (served h.span.length h.own what) s gave (served_kept h.span.length h.own what) ∙ its_words
+
+abbrev Leaves : Done → Type 0
+Leaves t = Sound t.installation
+
+module _ (i : Installation) (sound : Sound i) where
+  admit_sound : (p : ℕ) (lower : CellAddress) (terms : Terms) → OkIs Leaves (admit i p lower terms)
+  admit_sound p lower terms =
+      let span : Span = record { lower = lower; length = terms.length } in
+      required_then Leaves (nat_le p 7) refusal.NoSuchPlace _ (λ exists.
+      required_then Leaves (is_free (place_at i.places p)) refusal.PlaceTaken _ (λ free.
+      required_then Leaves (nat_le 1 terms.length && nat_le terms.length 32768) refusal.BadLength _ (λ good.
+      required_then Leaves (nat_le (lower.0 + terms.length) (length i.row)) refusal.PastStore _ (λ inside.
+      required_then Leaves (not (is_taken span i.places)) refusal.CellTaken _ (λ apart.
+      required_then Leaves (nat_lt terms.entry.0 terms.length) refusal.EntryPastLength _ (λ below.
+      admitted_sound i p _ sound (grind (arith, exists)) (record { some = grind (arith, good); few = grind (arith, good); inside = grind (arith, inside) }) (grind (arith, apart))))))))
+
+  retire_sound : (p : ℕ) → OkIs Leaves (retire i p)
+  retire_sound p = then_ok Leaves (holder i p) _ (λ h held. retired_sound i p sound (holder_span i p h held).0)
+
+  span_sound : (p : ℕ) → OkIs Leaves (span_of i p)
+  span_sound p = then_ok Leaves (holder i p) _ (λ h held. sound)
+
+  ask_sound : (p : ℕ) (what : Request (List ℕ)) → OkIs Leaves (ask i p what)
+  ask_sound p what =
+      then_ok Leaves (holder i p) _ (λ h held.
+      then_ok Leaves (served h.span.length h.own what) _ (λ s gave.
+      asked_sound i p h s.own sound held (as_many i sound p h held what s gave)))
+
+  taken_sound : (c : Call (List ℕ)) → OkIs Leaves (taken i c)
+  taken_sound (call.Admit p lower terms) = admit_sound p lower terms
+  taken_sound (call.Ask p what) = ask_sound p what
+  taken_sound (call.Retire p) = retire_sound p
+  taken_sound (call.Span p) = span_sound p
+  taken_sound (call.FixedAddress number cell) = then_ok Leaves (fixed_address number cell.0) _ (λ a found. sound)
+
+  pub performed_sound : (c : Call (List ℕ)) → Sound (performed i c).installation
+  performed_sound c = of_call Leaves i c (λ e. sound) (taken_sound c)
+
+pub after_sound : (i : Installation) (cs : List (Call (List ℕ))) → Sound i → Sound (after i cs)
+unfolding after
+after_sound i [] sound = sound
+after_sound i (c ∷ cs) sound = after_sound (performed i c).installation cs (performed_sound i sound c)

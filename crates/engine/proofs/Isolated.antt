@@ -1,0 +1,96 @@
+-- Isolation: two workers that are admitted on the same terms and find equal words live alike, since each lives as it would alone.
+use Rattle.std.proofs.Common.{ℕ, ◌≡◌, ◌+◌, true, not, ◌&&◌, List, length, take, nat_le, nat_lt, slice_set, Ok, sym, ap, ◌∙◌, arith}
+use Rattle.store.specs.Cells.{Cell}
+use Rattle.store.specs.declared.address.CellAddress.{CellAddress}
+use Rattle.records.specs.Registers.{starting_at}
+use Rattle.engine.specs.declared.answer.Answer.TheVariants as answer
+use Rattle.engine.specs.declared.answer.State.TheVariants as state
+use Rattle.engine.specs.declared.call.Call.TheVariants as call
+use Rattle.engine.specs.declared.call.Terms.{Terms}
+use Rattle.engine.specs.declared.place.Place.TheVariants.{Ready}
+use Rattle.engine.specs.declared.place.Span.{Span}
+use Rattle.engine.specs.declared.refusal.Refusal.TheVariants as refusal
+use Rattle.engine.specs.Admission.{Done, admit, is_free, is_taken}
+use Rattle.engine.specs.Exchanges.{calls_in, answers_in, ends_by_retire}
+use Rattle.engine.specs.Installation.{Installation, Holder, holder, if_taken, made, place_at, words_in}
+use Rattle.engine.specs.Isolation.{History, Isolation, Admits, before_admit, admission, said, at_last, worker_words, would_tell}
+use Rattle.engine.specs.Own.{Own}
+use Rattle.engine.specs.Performing.{performed}
+use Rattle.engine.proofs.Alone.{alone, alone_first, Seen, seen_after}
+use Rattle.engine.proofs.Histories.{of_call, performed_sound, after_sound}
+use Rattle.engine.proofs.Lives.{answered_alone, seen_alone}
+use Rattle.engine.proofs.Places.{holder_is, set_here}
+use Rattle.engine.proofs.Results.{OkIs, required_then}
+use Rattle.engine.proofs.Sound.{Sound, made_sound}
+
+-- a new worker as it sees itself
+abbrev new_own : Terms → List Cell → Own
+new_own terms words = record { state = state.Ready; registers = starting_at terms.entry.0; words = words }
+
+abbrev new_holder : CellAddress → Terms → List Cell → Holder
+new_holder lower terms words = record { span = record { lower = lower; length = terms.length }; own = new_own terms words }
+
+-- one that was admitted is found at its place, with the words that the cells hold
+module _ (i : Installation) (sound : Sound i) (p : ℕ) (lower : CellAddress) (terms : Terms) where
+  abbrev Found : Done → Type 0
+  Found t = t.answer ≡ answer.Admitted (Ok tt) → holder t.installation p ≡ Ok (new_holder lower terms (words_in i.row lower.0 terms.length))
+
+  admit_found : OkIs Found (admit i p lower terms)
+  admit_found =
+      let span : Span = record { lower = lower; length = terms.length } in
+      let places = slice_set i.places p (Ready (record { span = span; registers = starting_at terms.entry.0 })) in
+      required_then Found (nat_le p 7) refusal.NoSuchPlace _ (λ exists.
+      required_then Found (is_free (place_at i.places p)) refusal.PlaceTaken _ (λ free.
+      required_then Found (nat_le 1 terms.length && nat_le terms.length 32768) refusal.BadLength _ (λ good.
+      required_then Found (nat_le (lower.0 + terms.length) (length i.row)) refusal.PastStore _ (λ inside.
+      required_then Found (not (is_taken span i.places)) refusal.CellTaken _ (λ apart.
+      required_then Found (nat_lt terms.entry.0 terms.length) refusal.EntryPastLength _ (λ below _.
+      holder_is (record i { places = places }) p (grind (arith, exists))
+      ∙ ap (if_taken i.row) (set_here i.places p _ (grind (arith, exists, sound.eight)))))))))
+
+  found : Found (performed i (call.Admit p lower terms))
+  found = of_call Found i (call.Admit p lower terms) (λ e taken. absurd cc) admit_found
+
+module _ (p : ℕ) (terms : Terms) (h : History) (admits : Admits p terms h) where
+  before_sound : Sound (before_admit p terms h)
+  before_sound = after_sound (made h.row) h.before (made_sound h.row)
+
+  begins_sound : Sound (admission p terms h).installation
+  begins_sound = performed_sound (before_admit p terms h) before_sound (call.Admit p h.lower terms)
+
+  -- as it is found just after its admit
+  abbrev own : Own
+  own = new_own terms (worker_words p terms h (before_admit p terms h))
+
+  begins : holder (admission p terms h).installation p ≡ Ok (record { span = record { lower = h.lower; length = terms.length }; own = own })
+  begins = found (before_admit p terms h) before_sound p h.lower terms admits
+
+  answers_first : (k : ℕ) → take k (answers_in (said p terms h)) ≡ alone terms.length own (take k (calls_in (said p terms h)))
+  answers_first k =
+      ap (take k) (answered_alone p h.later (admission p terms h).installation _ begins_sound begins)
+      ∙ alone_first terms.length own k (calls_in (said p terms h))
+
+  seen : Seen
+  seen = record { told = would_tell p terms h (at_last p terms h); words = worker_words p terms h (at_last p terms h) }
+
+  is_seen : ends_by_retire p h.later ≡ true → seen ≡ seen_after terms.length own (calls_in (said p terms h))
+  unfolding seen
+  is_seen ends = seen_alone p h.later ends (admission p terms h).installation _ begins_sound begins
+
+pub isolated : Isolation
+unfolding seen
+isolated p terms s t admits_s admits_t same_words =
+    let same_own : own p terms s admits_s ≡ own p terms t admits_t = ap (new_own terms) same_words in (
+      λ k same_calls.
+          answers_first p terms s admits_s k
+          ∙ ap (λ o. alone terms.length o (take k (calls_in (said p terms s)))) same_own
+          ∙ ap (alone terms.length (own p terms t admits_t)) same_calls
+          ∙ sym (answers_first p terms t admits_t k),
+      λ ends_s ends_t same_calls.
+          let same_seen : seen p terms s admits_s ≡ seen p terms t admits_t =
+          is_seen p terms s admits_s ends_s
+          ∙ ap (λ o. seen_after terms.length o (calls_in (said p terms s))) same_own
+          ∙ ap (seen_after terms.length (own p terms t admits_t)) same_calls
+          ∙ sym (is_seen p terms t admits_t ends_t) in
+          (ap (λ x. x.told) same_seen, ap (λ x. x.words) same_seen),
+    )

@@ -1,0 +1,12 @@
+pub mod Results
+pub mod Rows
+pub mod Places
+pub mod Served
+pub mod Sound
+pub mod Histories
+pub mod Others
+pub mod Alone
+pub mod Lives
+pub mod Isolated
+pub mod Lawful
+pub mod Fitted

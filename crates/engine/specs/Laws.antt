@@ -1,0 +1,59 @@
+-- What holds of every call, and after every history of an installation from its making.
+use Rattle.std.specs.Prelude.{◌≡◌, ℕ, ◌+◌, ◌<◌, ◌≤◌, List, length, Option, Some, None, Result, Ok, Err}
+use Rattle.store.specs.Cells.{Cell}
+use Rattle.records.specs.Registers.{Fits}
+use Rattle.engine.specs.declared.answer.Answer.{Answer}
+use Rattle.engine.specs.declared.answer.Answer.TheVariants as answer
+use Rattle.engine.specs.declared.call.Call.{Call}
+use Rattle.engine.specs.declared.place.Worker.{Worker}
+use Rattle.engine.specs.declared.refusal.Refusal.{Refusal}
+use Rattle.engine.specs.Exchanges.{after}
+use Rattle.engine.specs.Installation.{Installation, made, worker_at}
+use Rattle.engine.specs.Performing.{refused, performed}
+
+-- the refusal that an answer tells, if it tells one
+abbrev pub err_of : {X : Type 0} → Result X Refusal → Option Refusal
+err_of (Ok x) = None
+err_of (Err e) = Some e
+
+abbrev pub refusal_of : Answer (List ℕ) → Option Refusal
+refusal_of (answer.Admitted r) = err_of r
+refusal_of (answer.Loaded r) = err_of r
+refusal_of (answer.Looked r) = err_of r
+refusal_of (answer.Ran r) = err_of r
+refusal_of (answer.Answered r) = err_of r
+refusal_of (answer.Saved r buffer) = err_of r
+refusal_of (answer.Restored r) = err_of r
+refusal_of (answer.Told r) = err_of r
+refusal_of (answer.Retired r) = err_of r
+refusal_of (answer.Spanned r) = err_of r
+refusal_of (answer.FixedAddress r) = err_of r
+
+-- a call whose answer tells a refusal leaves the installation as it was; a save's answer then has the buffer as it was
+abbrev pub RefusedLeaveAll : Type 0
+RefusedLeaveAll = (i : Installation) (c : Call (List ℕ)) (e : Refusal)
+    → refusal_of (performed i c).answer ≡ Some e
+    → performed i c ≡ record { answer = refused c e; installation = i }
+
+-- a worker has a cell
+abbrev pub Has : Worker → ℕ → Type 0
+Has w cell = (w.span.lower.0 ≤ cell) × (cell < w.span.lower.0 + w.span.length)
+
+-- a worker of an installation from its making, after some calls
+abbrev pub IsAt : List Cell → List (Call (List ℕ)) → ℕ → Worker → Type 0
+IsAt row calls p w = worker_at (after (made row) calls) p ≡ Some w
+
+-- two workers that have a cell in common are one
+abbrev pub NoCellIsShared : Type 0
+NoCellIsShared = (row : List Cell) (calls : List (Call (List ℕ))) (p q : ℕ) (v w : Worker) (cell : ℕ)
+    → IsAt row calls p v → IsAt row calls q w → Has v cell → Has w cell → p ≡ q
+
+-- the row keeps its length, and each worker has 1 to 32,768 cells, all of them in the row
+abbrev pub WorkersLieInRow : Type 0
+WorkersLieInRow = (row : List Cell) (calls : List (Call (List ℕ)))
+    → (length (after (made row) calls).row ≡ length row)
+    × ((p : ℕ) (w : Worker) → IsAt row calls p w → (1 ≤ w.span.length) × (w.span.length ≤ 32768) × (w.span.lower.0 + w.span.length ≤ length row))
+
+-- the registers of each worker have no more bits than they can have
+abbrev pub RegistersFit : Type 0
+RegistersFit = (row : List Cell) (calls : List (Call (List ℕ))) (p : ℕ) (w : Worker) → IsAt row calls p w → Fits w.registers

@@ -1,0 +1,25 @@
+// The laws of the definition of calls. Each function does nothing: its contract is all there is to it. They speak of the definition, in
+// specs/, and not yet of running code.
+ghost use Rattle.engine.specs.Isolation.{Isolation};
+ghost use Rattle.engine.specs.Laws.{RefusedLeaveAll, NoCellIsShared, WorkersLieInRow, RegistersFit};
+
+// No worker's answers, registers or words depend on where it lies or on what else is called.
+pub fn definition_isolates_workers()
+    ensures { Isolation }
+{}
+
+// A refused call leaves the installation as it was, and a refused save its buffer.
+pub fn definition_leaves_all_on_refusal()
+    ensures { RefusedLeaveAll }
+{}
+
+// No two workers have a cell in common, after any history from the making; and each lies in the row.
+pub fn definition_keeps_workers_apart()
+    ensures apart { NoCellIsShared }
+    ensures inside { WorkersLieInRow }
+{}
+
+// The registers of every worker have no more bits than they can have, after any history from the making.
+pub fn definition_keeps_registers_in_their_widths()
+    ensures { RegistersFit }
+{}
