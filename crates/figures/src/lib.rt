@@ -1,12 +1,21 @@
 // Worked figures: what the definitions of the machine give in cases that were worked by hand. The checker computes each.
 #![tactic(auto)]
 
-ghost use Rattle.std.specs.Prelude.{◌≡◌, true, false, pos, neg_ℤ};
+ghost use Rattle.std.specs.Prelude.{◌≡◌, true, false, pos, neg_ℤ, [], ◌∷◌, ◌++◌, map, replicate};
 ghost use Rattle.words.specs.Words.{upper_half, lower_half};
 ghost use Rattle.words.specs.Sums.{difference, integer_of, sum};
 ghost use Rattle.words.specs.Shifts.{shifted_right_with_sign, turned_left};
 ghost use Rattle.words.specs.Scale.{scale_factor};
 ghost use Rattle.stores.specs.Parity.{half_of};
+ghost use Rattle.processor.specs.declared.outcome.Ending.TheVariants.{Spent, Interrupted};
+ghost use Rattle.processor.specs.declared.report.ReferenceKind.TheVariants.{Fetch, Write};
+ghost use Rattle.processor.specs.declared.report.Report.TheVariants.{IllegalInstruction, Protection, ExecutiveReturn};
+ghost use Rattle.processor.specs.Reports.{relative};
+ghost use Rattle.engine.specs.declared.answer.Answer.TheVariants.{Admitted, Looked, Saved};
+ghost use Rattle.engine.specs.declared.answer.State.TheVariants.{Held, Ready};
+ghost use Rattle.engine.specs.declared.call.Call.TheVariants.{Ask};
+ghost use Rattle.engine.specs.declared.call.Request.TheVariants.{Run, Save, Tell};
+ghost use Rattle.figures.specs.Programs.{adding, admit, asked, called, illegal, jumping, look, ran, reference, refused_by, told};
 
 // Does nothing: its contract is all there is to it.
 pub fn worked_figures()
@@ -24,4 +33,13 @@ pub fn worked_figures()
     ensures spoiled_three { half_of 3 ≡ record { value = 3; good = false } }
     ensures good_zero { half_of 32768 ≡ record { value = 0; good = true } }
     ensures good_three { half_of 32771 ≡ record { value = 3; good = true } }
+    ensures adding { asked 8 adding (Run 10 ∷ Tell ∷ look 7 ∷ []) ≡ Admitted (Ok tt) ∷ ran 4 (Interrupted (ExecutiveReturn (relative 10))) ∷ told (Held (ExecutiveReturn (relative 10))) 8 4 ∷ Looked (Ok 8) ∷ [] }
+    ensures adding_in_7_words { asked 7 adding (Run 10 ∷ Tell ∷ []) ≡ Admitted (Ok tt) ∷ ran 3 (Interrupted (Protection (reference Write 7))) ∷ told (Held (Protection (reference Write 7))) 8 3 ∷ [] }
+    ensures two_steps { asked 8 adding (Run 2 ∷ Tell ∷ []) ≡ Admitted (Ok tt) ∷ ran 2 Spent ∷ told Ready 8 2 ∷ [] }
+    ensures two_steps_in_7_words { asked 7 adding (Run 2 ∷ Tell ∷ []) ≡ Admitted (Ok tt) ∷ ran 2 Spent ∷ told Ready 8 2 ∷ [] }
+    ensures jumping { asked 8 jumping (Run 10 ∷ Tell ∷ []) ≡ Admitted (Ok tt) ∷ ran 2 (Interrupted (Protection (reference Fetch 8))) ∷ told (Held (Protection (reference Fetch 8))) 0 8 ∷ [] }
+    ensures illegal { asked 8 illegal (Run 10 ∷ Tell ∷ []) ≡ Admitted (Ok tt) ∷ ran 1 (Interrupted (IllegalInstruction (relative 0))) ∷ told (Held (IllegalInstruction (relative 0))) 0 1 ∷ [] }
+    ensures saved { called 6 (admit 0 0 6 5 ∷ Ask 0 (Save (replicate 29 255)) ∷ []) ≡ Admitted (Ok tt) ∷ Saved (Ok tt) (0x00 ∷ 0x1B ∷ 0x01 ∷ replicate 22 0 ++ 0x00 ∷ 0x00 ∷ 0x00 ∷ 0x05 ∷ []) ∷ [] }
+    ensures to_the_last_cell { map refused_by (called 64 (admit 0 60 5 0 ∷ admit 0 60 4 0 ∷ [])) ≡ Some 5 ∷ None ∷ [] }
+    ensures side_by_side { map refused_by (called 64 (admit 0 0 8 0 ∷ admit 1 7 1 0 ∷ admit 1 8 1 0 ∷ [])) ≡ None ∷ Some 6 ∷ None ∷ [] }
 {}

@@ -1,6 +1,16 @@
 use Rattle.std.proofs.Common.{refl}
 use Rattle.std.specs.Int.Count.{ones}
 use Rattle.words.specs.Bits.{of_bits}
+use Rattle.words.specs.Extension.{extended}
+use Rattle.records.specs.Record.{record_of}
+use Rattle.processor.specs.Computations.{computed}
+use Rattle.processor.specs.Repertoire.{operation_of}
+use Rattle.processor.specs.Run.{run}
+use Rattle.processor.specs.Skips.{skip_met, product_skip_met}
+use Rattle.processor.specs.Step.{step, tried, instruction_effect}
+use Rattle.engine.specs.Exchanges.{exchanges}
+use Rattle.engine.specs.Performing.{performed}
+use Rattle.engine.specs.Serving.{served}
 use Rattle.words.specs.Scale.{scale_factor, turns_within}
 use Rattle.words.specs.Shifts.{shifted_right_with_sign, turned_left}
 use Rattle.words.specs.Sums.{difference, sum}
@@ -45,3 +55,39 @@ returns-clause-good_zero c = refl
 pub returns-clause-good_three : goal.returns-clause-good_three
 unfolding ones
 returns-clause-good_three c = refl
+
+pub returns-clause-adding : goal.returns-clause-adding
+unfolding exchanges performed served run step tried instruction_effect operation_of skip_met product_skip_met computed sum difference extended of_bits
+returns-clause-adding c = refl
+
+pub returns-clause-adding_in_7_words : goal.returns-clause-adding_in_7_words
+unfolding exchanges performed served run step tried instruction_effect operation_of skip_met product_skip_met computed sum difference extended of_bits
+returns-clause-adding_in_7_words c = refl
+
+pub returns-clause-two_steps : goal.returns-clause-two_steps
+unfolding exchanges performed served run step tried instruction_effect operation_of skip_met product_skip_met computed sum difference extended of_bits
+returns-clause-two_steps c = refl
+
+pub returns-clause-two_steps_in_7_words : goal.returns-clause-two_steps_in_7_words
+unfolding exchanges performed served run step tried instruction_effect operation_of skip_met product_skip_met computed sum difference extended of_bits
+returns-clause-two_steps_in_7_words c = refl
+
+pub returns-clause-jumping : goal.returns-clause-jumping
+unfolding exchanges performed served run step tried instruction_effect operation_of skip_met product_skip_met computed sum difference extended of_bits
+returns-clause-jumping c = refl
+
+pub returns-clause-illegal : goal.returns-clause-illegal
+unfolding exchanges performed served run step tried instruction_effect operation_of skip_met product_skip_met computed sum difference extended of_bits
+returns-clause-illegal c = refl
+
+pub returns-clause-saved : goal.returns-clause-saved
+unfolding exchanges performed served record_of
+returns-clause-saved c = refl
+
+pub returns-clause-to_the_last_cell : goal.returns-clause-to_the_last_cell
+unfolding exchanges performed
+returns-clause-to_the_last_cell c = refl
+
+pub returns-clause-side_by_side : goal.returns-clause-side_by_side
+unfolding exchanges performed
+returns-clause-side_by_side c = refl
