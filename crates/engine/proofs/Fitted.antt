@@ -1,6 +1,5 @@
 -- The registers of every worker fit, after any history from the making.
-use Rattle.std.proofs.Common.{ℕ, ◌≡◌, ◌≤◌, ◌<◌, ◌+◌, ◌^◌, not, ◌&&◌, List, [], ◌∷◌, length, nat_le, nat_lt, slice_set, Some, Result, Ok, Err, refl, sym, ap, ◌∙◌, subst, arith, ⊎_elim}
-use Rattle.std.proofs.lemmas.Bool.{cases_eq}
+use Rattle.std.proofs.Common.{ℕ, ◌≡◌, ◌≤◌, ◌<◌, ◌+◌, ◌^◌, not, ◌&&◌, List, length, nat_le, nat_lt, Some, Result, Ok, Err, refl, sym, ap, ◌∙◌, subst, arith}
 use Rattle.store.specs.declared.address.CellAddress.{CellAddress}
 use Rattle.records.specs.Record.{record_read}
 use Rattle.records.specs.Registers.{Registers, Fits, starting_at}
@@ -22,15 +21,14 @@ use Rattle.engine.specs.declared.place.Worker.{Worker}
 use Rattle.engine.specs.declared.refusal.Refusal.TheVariants as refusal
 use Rattle.engine.specs.Admission.{Done, admit, retire, is_free, is_taken}
 use Rattle.engine.specs.FixedAddress.{fixed_address}
-use Rattle.engine.specs.Exchanges.{after}
 use Rattle.engine.specs.Installation.{Installation, Holder, holder, made, place_at, place_by, worker_of}
 use Rattle.engine.specs.Laws.{RegistersFit}
 use Rattle.engine.specs.Own.{Own}
-use Rattle.engine.specs.Performing.{ask, taken, performed}
+use Rattle.engine.specs.Performing.{ask, taken}
 use Rattle.engine.specs.Refusals.{by_record}
 use Rattle.engine.specs.Serving.{Served, served, run_ready, machine_of, answered, is_held}
-use Rattle.engine.proofs.Histories.{of_call, performed_sound, its_lies}
-use Rattle.engine.proofs.Places.{Holds, holder_holds, set_here, set_there, free_at, some_is, none_is}
+use Rattle.engine.proofs.Histories.{after_keeps, its_place, its_lies}
+use Rattle.engine.proofs.Places.{set_all, free_at, some_is, none_is}
 use Rattle.engine.proofs.Results.{OkIs, then_ok, ok_is, required_then}
 use Rattle.engine.proofs.Sound.{Sound, made_sound}
 
@@ -69,15 +67,11 @@ new_fits : (entry : ℕ) → entry < 32768 → Fits (starting_at entry)
 new_fits entry small = let b : 0 < 2 ^ 15 = omega arith in (omega arith, omega arith, refl, (b, (b, (b, (b, (b, (b, (b, tt))))))), omega (arith, small))
 
 -- the registers of the worker of each place fit
-abbrev AllFit : List Place → Type 0
-AllFit places = (p : ℕ) (w : Worker) → worker_of (place_at places p) ≡ Some w → Fits w.registers
+abbrev PlaceFits : Place → Type 0
+PlaceFits place = (w : Worker) → worker_of place ≡ Some w → Fits w.registers
 
--- so they do after a place is set whose worker's do
-set_fits : (places : List Place) (p : ℕ) (place : Place) → p < length places → AllFit places → ((w : Worker) → worker_of place ≡ Some w → Fits w.registers) → AllFit (slice_set places p place)
-set_fits places p place within all fits q w at = ⊎_elim
-    (λ here. fits w (ap worker_of (sym (set_here places p place within)) ∙ ap (λ q. worker_of (place_at (slice_set places p place) q)) (sym here) ∙ at))
-    (λ there. all q w (ap worker_of (sym (set_there places p place q there)) ∙ at))
-    (cases_eq q p)
+abbrev AllFit : Installation → Type 0
+AllFit i = (p : ℕ) → PlaceFits (place_at i.places p)
 
 -- a place by its state has a worker with those registers
 by_state_fits : (state : State) (v w : Worker) → Fits v.registers → worker_of (place_by state v) ≡ Some w → Fits w.registers
@@ -88,21 +82,14 @@ by_state_worker : (state : State) (w : Worker) → worker_of (place_by state w) 
 by_state_worker Ready w = refl
 by_state_worker (Held report) w = refl
 
-module _ (i : Installation) (sound : Sound i) (all : AllFit i.places) where
+module _ (i : Installation) (sound : Sound i) (all : AllFit i) where
   abbrev Fitted : Done → Type 0
-  Fitted t = AllFit t.installation.places
+  Fitted t = AllFit t.installation
 
-  module _ (p : ℕ) (h : Holder) (held : holder i p ≡ Ok h) where
-    known : (p ≤ 7) × Holds i.row (place_at i.places p) h
-    known = ok_is (λ h. (p ≤ 7) × Holds i.row (place_at i.places p) h) (holder i p) h held (holder_holds i p)
-
-    held_fits : Fits h.own.registers
-    held_fits =
-        let w : Worker = record { span = h.span; registers = h.own.registers } in
-        all p w (ap worker_of known.1.place_is ∙ by_state_worker h.own.state w)
-
-    within : p < length i.places
-    within = omega (arith, known.0, sound.eight)
+  held_fits : (p : ℕ) (h : Holder) → holder i p ≡ Ok h → Fits h.own.registers
+  held_fits p h held =
+      let w : Worker = record { span = h.span; registers = h.own.registers } in
+      all p w (ap worker_of (its_place i sound p h held).place_is ∙ by_state_worker h.own.state w)
 
   ask_fitted : (p : ℕ) (what : Request (List ℕ)) → OkIs Fitted (ask i p what)
   ask_fitted p what =
@@ -110,10 +97,10 @@ module _ (i : Installation) (sound : Sound i) (all : AllFit i.places) where
       then_ok Fitted (served h.span.length h.own what) _ (λ s gave.
       let left : Worker = record { span = h.span; registers = s.own.registers } in
       let fits : Fits s.own.registers = ok_is (StillFits h.span.length (its_lies i sound p h held).few h.own (held_fits p h held)) (served h.span.length h.own what) s gave (served_fitted h.span.length (its_lies i sound p h held).few h.own (held_fits p h held) what) in
-      set_fits i.places p (place_by s.own.state left) (within p h held) all (λ w at. by_state_fits s.own.state left w fits at)))
+      set_all PlaceFits i.places p (place_by s.own.state left) all (λ w at. by_state_fits s.own.state left w fits at)))
 
   retire_fitted : (p : ℕ) → OkIs Fitted (retire i p)
-  retire_fitted p = then_ok Fitted (holder i p) _ (λ h held. set_fits i.places p place.Free (within p h held) all (λ w at. absurd (none_is w at)))
+  retire_fitted p = then_ok Fitted (holder i p) _ (λ h held. set_all PlaceFits i.places p place.Free all (λ w at. absurd (none_is w at)))
 
   admit_fitted : (p : ℕ) (lower : CellAddress) (terms : Terms) → OkIs Fitted (admit i p lower terms)
   admit_fitted p lower terms =
@@ -126,7 +113,7 @@ module _ (i : Installation) (sound : Sound i) (all : AllFit i.places) where
       required_then Fitted (not (is_taken span i.places)) refusal.CellTaken _ (λ apart.
       required_then Fitted (nat_lt terms.entry.0 terms.length) refusal.EntryPastLength _ (λ below.
       let fits : Fits (starting_at terms.entry.0) = new_fits terms.entry.0 (grind (arith, below, good)) in
-      set_fits i.places p (place.Ready new) (grind (arith, exists, sound.eight)) all (λ w at. subst (λ w. Fits w.registers) (some_is new w at) fits)))))))
+      set_all PlaceFits i.places p (place.Ready new) all (λ w at. subst (λ w. Fits w.registers) (some_is new w at) fits)))))))
 
   taken_fitted : (c : Call (List ℕ)) → OkIs Fitted (taken i c)
   taken_fitted (call.Admit p lower terms) = admit_fitted p lower terms
@@ -135,10 +122,5 @@ module _ (i : Installation) (sound : Sound i) (all : AllFit i.places) where
   taken_fitted (call.Span p) = then_ok Fitted (holder i p) _ (λ h held. all)
   taken_fitted (call.FixedAddress number cell) = then_ok Fitted (fixed_address number cell.0) _ (λ a found. all)
 
-after_fitted : (i : Installation) (cs : List (Call (List ℕ))) → Sound i → AllFit i.places → AllFit (after i cs).places
-unfolding after
-after_fitted i [] sound all = all
-after_fitted i (c ∷ cs) sound all = after_fitted (performed i c).installation cs (performed_sound i sound c) (of_call (Fitted i sound all) i c (λ e. all) (taken_fitted i sound all c))
-
 pub registers_fit : RegistersFit
-registers_fit row calls p w at = after_fitted (made row) calls (made_sound row) (λ q v free. absurd (none_is v (sym (ap worker_of (free_at 8 q)) ∙ free))) p w at
+registers_fit row calls p w at = after_keeps AllFit taken_fitted (made row) calls (made_sound row) (λ q v free. absurd (none_is v (sym (ap worker_of (free_at 8 q)) ∙ free))) p w at

@@ -14,7 +14,7 @@ use Rattle.engine.specs.Exchanges.{after}
 use Rattle.engine.specs.Installation.{Installation, Holder, holder, place_at}
 use Rattle.engine.specs.Performing.{ask, taken, refused, taken_or_refused, performed}
 use Rattle.engine.specs.Serving.{Served, served}
-use Rattle.engine.proofs.Places.{holder_span, holder_holds}
+use Rattle.engine.proofs.Places.{Holds, holder_span, holder_holds}
 use Rattle.engine.proofs.Results.{OkIs, then_ok, ok_is, required_then}
 use Rattle.engine.proofs.Rows.{words_number}
 use Rattle.engine.proofs.Served.{served_kept}
@@ -29,13 +29,16 @@ pub of_call : (P : Done → Type 0) (i : Installation) (c : Call (List ℕ)) →
 unfolding performed
 of_call P i c = by_result P i c (taken i c)
 
--- a worker lies in the row, and one that was served has as many words as its length
+-- a worker is at its place and lies in the row, and one that was served has as many words as its length
 module _ (i : Installation) (sound : Sound i) (p : ℕ) (h : Holder) (held : holder i p ≡ Ok h) where
+  pub its_place : Holds i.row (place_at i.places p) h
+  its_place = (ok_is _ (holder i p) h held (holder_holds i p)).1
+
   pub its_lies : Lies i.row h.span
   its_lies = sound.lies p h.span (holder_span i p h held).1
 
-  its_words : length h.own.words ≡ h.span.length
-  its_words = ap length (ok_is _ (holder i p) h held (holder_holds i p)).1.words_are ∙ words_number i.row h.span.lower.0 h.span.length its_lies.inside
+  pub its_words : length h.own.words ≡ h.span.length
+  its_words = ap length its_place.words_are ∙ words_number i.row h.span.lower.0 h.span.length its_lies.inside
 
   pub as_many : (what : Request (List ℕ)) (s : Served) → served h.span.length h.own what ≡ Ok s → length s.own.words ≡ h.span.length
   as_many what s gave = ok_is (λ s. length s.own.words ≡ length h.own.words) (served h.span.length h.own what) s gave (served_kept h.span.length h.own what) ∙ its_words
@@ -81,3 +84,9 @@ pub after_sound : (i : Installation) (cs : List (Call (List ℕ))) → Sound i �
 unfolding after
 after_sound i [] sound = sound
 after_sound i (c ∷ cs) sound = after_sound (performed i c).installation cs (performed_sound i sound c)
+
+-- and what every call keeps of a sound installation, every history keeps
+pub after_keeps : (P : Installation → Type 0) → ((i : Installation) → Sound i → P i → (c : Call (List ℕ)) → OkIs (λ t. P t.installation) (taken i c)) → (i : Installation) (cs : List (Call (List ℕ))) → Sound i → P i → P (after i cs)
+unfolding after
+after_keeps P keeps i [] sound holds = holds
+after_keeps P keeps i (c ∷ cs) sound holds = after_keeps P keeps (performed i c).installation cs (performed_sound i sound c) (of_call (λ t. P t.installation) i c (λ e. holds) (keeps i sound holds c))

@@ -23,7 +23,7 @@ use Rattle.engine.specs.Serving.{served, run_ready}
 use Rattle.engine.proofs.Sound.{Sound, made_sound}
 
 -- after a history from the making
-sound_after : (row : List Cell) (calls : List (Call (List ℕ))) → Sound (after (made row) calls)
+pub sound_after : (row : List Cell) (calls : List (Call (List ℕ))) → Sound (after (made row) calls)
 sound_after row calls = after_sound (made row) calls (made_sound row)
 
 pub no_cell_shared : NoCellIsShared
@@ -77,10 +77,10 @@ served_untold n o (request.Save buffer) = search (then_ok)
 served_untold n o (request.Restore bytes) = search (then_ok)
 served_untold n o request.Tell = refl
 
-abbrev Untold : Done → Type 0
+abbrev pub Untold : Done → Type 0
 Untold t = refusal_of t.answer ≡ None
 
-taken_untold : (i : Installation) (c : Call (List ℕ)) → OkIs Untold (taken i c)
+pub taken_untold : (i : Installation) (c : Call (List ℕ)) → OkIs Untold (taken i c)
 taken_untold i (call.Admit p lower terms) = search (then_ok) depth 8
 taken_untold i (call.Ask p what) = then_ok Untold (holder i p) _ (λ h held. then_ok Untold (served h.span.length h.own what) _ (λ s gave. ok_is _ (served h.span.length h.own what) s gave (served_untold h.span.length h.own what)))
 taken_untold i (call.Retire p) = search (then_ok)
@@ -96,7 +96,7 @@ request_told (request.Save buffer) e = refl
 request_told (request.Restore bytes) e = refl
 request_told request.Tell e = refl
 
-told : (c : Call (List ℕ)) (e : Refusal) → refusal_of (refused c e) ≡ Some e
+pub told : (c : Call (List ℕ)) (e : Refusal) → refusal_of (refused c e) ≡ Some e
 told (call.Admit p lower terms) e = refl
 told (call.Ask p what) e = request_told what e
 told (call.Retire p) e = refl

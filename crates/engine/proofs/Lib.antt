@@ -10,3 +10,5 @@ pub mod Lives
 pub mod Isolated
 pub mod Lawful
 pub mod Fitted
+pub mod Reported
+pub mod Addressed

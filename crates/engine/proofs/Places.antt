@@ -37,6 +37,14 @@ module _ (places : List Place) (p : ℕ) (place : Place) where
       (λ there. inr (there, ap (λ x. span_in (worker_of x)) (sym (set_there q there)) ∙ then))
       (cases_eq q p)
 
+-- what holds of each place, and of the one that is set, holds of each place afterwards
+pub set_all : (P : Place → Type 0) (places : List Place) (p : ℕ) (place : Place) → ((q : ℕ) → P (place_at places q)) → P place → (q : ℕ) → P (place_at (slice_set places p place) q)
+set_all P [] p place all holds q = all q
+set_all P (x ∷ xs) zero place all holds zero = holds
+set_all P (x ∷ xs) zero place all holds (suc q) = all (suc q)
+set_all P (x ∷ xs) (suc p) place all holds zero = all zero
+set_all P (x ∷ xs) (suc p) place all holds (suc q) = set_all P xs p place (λ r. all (suc r)) holds q
+
 -- what is known of a holder: there is such a place, which is the worker's, and its words are those of its span
 pub record Holds (row : List Cell) (place : Place) (h : Holder) : Type 0 where
   pub place_is : place ≡ place_by h.own.state (record { span = h.span; registers = h.own.registers })

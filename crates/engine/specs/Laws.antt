@@ -1,14 +1,23 @@
 -- What holds of every call, and after every history of an installation from its making.
-use Rattle.std.specs.Prelude.{◌≡◌, ℕ, ◌+◌, ◌<◌, ◌≤◌, List, length, Option, Some, None, Result, Ok, Err}
+use Rattle.std.specs.Prelude.{◌≡◌, ◌≢◌, ℕ, ◌+◌, ◌<◌, ◌≤◌, List, length, Option, Some, None, Result, Ok, Err}
 use Rattle.store.specs.Cells.{Cell}
+use Rattle.store.specs.declared.fault.Fault.TheVariants.{NoCell}
 use Rattle.records.specs.Registers.{Fits}
+use Rattle.processor.specs.declared.address.RelativeAddress.{RelativeAddress}
+use Rattle.processor.specs.declared.report.Report.{Report}
+use Rattle.processor.specs.Reports.{fault_of}
 use Rattle.engine.specs.declared.answer.Answer.{Answer}
 use Rattle.engine.specs.declared.answer.Answer.TheVariants as answer
 use Rattle.engine.specs.declared.call.Call.{Call}
+use Rattle.engine.specs.declared.call.Call.TheVariants as call
+use Rattle.engine.specs.declared.call.Request.{Request}
+use Rattle.engine.specs.declared.call.Request.TheVariants as request
+use Rattle.engine.specs.declared.place.Place.TheVariants.{Held}
 use Rattle.engine.specs.declared.place.Worker.{Worker}
 use Rattle.engine.specs.declared.refusal.Refusal.{Refusal}
+use Rattle.engine.specs.declared.refusal.Refusal.TheVariants.{AddressPastLength}
 use Rattle.engine.specs.Exchanges.{after}
-use Rattle.engine.specs.Installation.{Installation, made, worker_at}
+use Rattle.engine.specs.Installation.{Installation, made, place_at, worker_at}
 use Rattle.engine.specs.Performing.{refused, performed}
 
 -- the refusal that an answer tells, if it tells one
@@ -57,3 +66,20 @@ WorkersLieInRow = (row : List Cell) (calls : List (Call (List ℕ)))
 -- the registers of each worker have no more bits than they can have
 abbrev pub RegistersFit : Type 0
 RegistersFit = (row : List Cell) (calls : List (Call (List ℕ))) (p : ℕ) (w : Worker) → IsAt row calls p w → Fits w.registers
+
+-- a worker has all its words: no report that it is held with tells that the store has no cell
+abbrev pub NoReportOfNoCell : Type 0
+NoReportOfNoCell = (row : List Cell) (calls : List (Call (List ℕ))) (p : ℕ) (w : Worker) (report : Report)
+    → place_at (after (made row) calls).places p ≡ Held w report
+    → fault_of report ≢ Some NoCell
+
+-- the refusal of what is asked of a worker after some calls, if it is refused
+abbrev pub refusal_after : List Cell → List (Call (List ℕ)) → ℕ → Request (List ℕ) → Option Refusal
+refusal_after row calls p what = refusal_of (performed (after (made row) calls) (call.Ask p what)).answer
+
+-- and a look or a load is refused for its address only where that is at the length or past it
+abbrev pub WordsBelowLength : Type 0
+WordsBelowLength = (row : List Cell) (calls : List (Call (List ℕ))) (p : ℕ) (w : Worker) (address : RelativeAddress)
+    → IsAt row calls p w
+    → (refusal_after row calls p (request.Look address) ≡ Some AddressPastLength → w.span.length ≤ address.0)
+    × ((word : ℕ) → refusal_after row calls p (request.Load address word) ≡ Some AddressPastLength → w.span.length ≤ address.0)

@@ -1,7 +1,7 @@
 // The laws of the definition of calls. Each function does nothing: its contract is all there is to it. They speak of the definition, in
 // specs/, and not yet of running code.
 ghost use Rattle.engine.specs.Isolation.{Isolation};
-ghost use Rattle.engine.specs.Laws.{RefusedLeaveAll, NoCellIsShared, WorkersLieInRow, RegistersFit};
+ghost use Rattle.engine.specs.Laws.{RefusedLeaveAll, NoCellIsShared, WorkersLieInRow, RegistersFit, NoReportOfNoCell, WordsBelowLength};
 
 // No worker's answers, registers or words depend on where it lies or on what else is called.
 pub fn definition_isolates_workers()
@@ -22,4 +22,11 @@ pub fn definition_keeps_workers_apart()
 // The registers of every worker have no more bits than they can have, after any history from the making.
 pub fn definition_keeps_registers_in_their_widths()
     ensures { RegistersFit }
+{}
+
+// A worker finds all its words, after any history from the making: no report that it is held with tells that the store has no cell, and no
+// address below its length is refused as one past it.
+pub fn definition_finds_every_word()
+    ensures reported { NoReportOfNoCell }
+    ensures addressed { WordsBelowLength }
 {}

@@ -12,7 +12,7 @@ put_kept : (words : List Cell) (p : Put) → length (put_done words p) ≡ lengt
 put_kept words (whole r w) = length-set words _ _
 put_kept words (half r h x) = length-set words _ _
 
-puts_kept : (words : List Cell) (ps : List Put) → length (puts_done words ps) ≡ length words
+pub puts_kept : (words : List Cell) (ps : List Put) → length (puts_done words ps) ≡ length words
 puts_kept words [] = refl
 puts_kept words (p ∷ ps) = puts_kept (put_done words p) ps ∙ put_kept words p
 

@@ -1,6 +1,10 @@
 mod Chosen
 mod EffectsFit
+pub mod Failed
+pub mod Faults
 pub mod Fitting
 mod Found
 pub mod Kept
+pub mod Referred
 mod Registered
+pub mod Whole
