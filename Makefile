@@ -1,5 +1,6 @@
 # `make demo` builds the console and plays `examples/store.script`; `make test` is the gate; `make vectors` writes the vectors of arithmetic anew.
-.PHONY: demo test vectors
+# `make cases` has the checker compute the cases in `tools/cases` from the definitions; it is no part of the gate.
+.PHONY: demo test vectors cases
 
 demo:
 	@mkdir -p target
@@ -12,3 +13,6 @@ test:
 vectors:
 	@python3 tools/vectors.py questions > crates/vectors/stdin
 	@python3 tools/vectors.py answers > crates/vectors/stdout
+
+cases:
+	@python3 tools/compute_cases.py
