@@ -26,15 +26,12 @@ TOP = os.path.dirname(os.path.dirname(os.path.abspath(__file__)))
 # How many cases of a kind are computed at once: with many more, the checker runs out of stack.
 AT_ONCE = {"steps": 25, "runs": 5, "histories": 6}
 
-NOT_COMPUTABLE = {"step_417": "the checker cannot count the ones of a large number"}
-
 HEAD = """\
 use Rattle.std.proofs.Common.{ℕ, ◌≡◌, Bool, true, false, List, [], ◌∷◌, refl, Ok, Err}
-use Rattle.std.specs.Int.Count.{ones}
 use Rattle.words.specs.Bits.{of_bits}
 use Rattle.words.specs.Characters.{packed}
 use Rattle.words.specs.Extension.{extended}
-use Rattle.words.specs.Logic.{product, selective_set, selective_complement, selective_clear, selective_substitute, has_odd_ones, equal_under, less_under}
+use Rattle.words.specs.Logic.{product, selective_set, selective_complement, selective_clear, selective_substitute, ones_among, has_odd_ones, equal_under, less_under}
 use Rattle.words.specs.Order.{less}
 use Rattle.words.specs.Scale.{scale_factor, turns_within}
 use Rattle.words.specs.Shifts.{shifted_right, shifted_right_with_sign, turned_left}
@@ -83,12 +80,12 @@ UNFOLDED = """\
 exchanges after performed served fixed_address record_of record_read registers_in too_wide
 run step tried instruction_effect operation_of skip_met product_skip_met computed sum difference extended of_bits packed
 product selective_set selective_complement selective_clear selective_substitute has_odd_ones equal_under less_under less
-scale_factor turns_within shifted_right shifted_right_with_sign turned_left ones""".split()
+scale_factor turns_within shifted_right shifted_right_with_sign turned_left ones_among""".split()
 
 # By their numbers, from 1 on; those of 18 and 19 name something besides.
 REFUSALS = """\
-NoSuchPlace PlaceTaken PlaceFree BadLength PastStore CellTaken EntryPastLength AddressPastLength NumberTooWide BudgetTooLarge
-Held NotHeld BufferTooShort NoFixedAddress RecordTooShort RecordLength RecordVersion FieldTooWide Spoiled""".split()
+NoSuchPlace PlaceOccupied PlaceFree BadLength PastStore CellShared EntryPastLength AddressPastLength NumberTooWide BudgetTooLarge
+WorkerHeld WorkerNotHeld ShortBuffer NoFixedAddress ShortRecord RecordLength RecordVersion FieldTooWide Spoiled""".split()
 
 ANSWERS = {"admit": "Admitted", "load": "Loaded", "look": "Looked", "run": "Ran", "answer": "Answered", "save": "Saved",
            "restore": "Restored", "tell": "Told", "retire": "Retired", "span": "Spanned", "fixed": "FixedAddress"}
@@ -266,8 +263,8 @@ def not_computed(figures, cases):
 
 
 def compute(kinds):
-    """Prints what comes of each chunk of cases; gives whether all were computed that can be."""
-    computed, differ, known = 0, 0, 0
+    """Prints what comes of each chunk of cases; gives whether all were computed."""
+    computed, differ = 0, 0
     with tempfile.TemporaryDirectory(prefix="cases-") as copy:
         copy_tree(copy)
         figures = f"{copy}/crates/figures"
@@ -285,14 +282,11 @@ def compute(kinds):
                 failed = not_computed(figures, chunk)
                 print(f"{chunk[0].name} to {chunk[-1].name}: {len(chunk) - len(failed)} of {len(chunk)} computed", flush=True)
                 for case in chunk:
-                    if case.name in failed and case.name in NOT_COMPUTABLE:
-                        print(f"  {case.name} ({case.label}) is known not to be computable: {NOT_COMPUTABLE[case.name]}", flush=True)
-                        known += 1
-                    elif case.name in failed:
+                    if case.name in failed:
                         print(f"  {case.name} ({case.label}) differs or cannot be computed:\n{failed[case.name]}", flush=True)
                         differ += 1
                 computed += len(chunk) - len(failed)
-    print(f"{computed} computed, {differ} differ or cannot be computed" + (f", {known} known not to be computable" if known else ""))
+    print(f"{computed} computed, {differ} differ or cannot be computed")
     return differ == 0
 
 

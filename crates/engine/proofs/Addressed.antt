@@ -20,8 +20,9 @@ use Rattle.engine.specs.declared.refusal.Refusal.{Refusal}
 use Rattle.engine.specs.declared.refusal.Refusal.TheVariants as refusal
 use Rattle.engine.specs.Admission.{Done}
 use Rattle.engine.specs.Exchanges.{after}
-use Rattle.engine.specs.Installation.{Installation, holder, if_taken, made, place_at, worker_at}
-use Rattle.engine.specs.Laws.{refusal_of, WordsBelowLength}
+use Rattle.engine.specs.Installation.{Installation, holder, if_occupied, made, place_at, worker_at}
+use Rattle.engine.specs.Refusals.{refusal_of}
+use Rattle.engine.specs.Laws.{WordsBelowLength}
 use Rattle.engine.specs.Own.{Own}
 use Rattle.engine.specs.Performing.{ask, taken, taken_or_refused, performed}
 use Rattle.engine.specs.Refusals.{require, by_store}
@@ -69,13 +70,13 @@ module _ (r : ℕ) where
         then_err (Past n) (by_store (put_whole_answer o.words r)) _ (by_store_past n (put_whole_answer o.words r) (put_whole_of_cell o.words r (omega (arith, words, ltb-true r n below)))) (λ done _. tt)))
 
   -- a holder is not refused for an address
-  if_taken_past : (n : ℕ) (row : List Cell) (place : Place) → IfErr (if_taken row place) (Past n)
-  if_taken_past n row place.Free = λ same. absurd cc
-  if_taken_past n row (place.Ready w) = tt
-  if_taken_past n row (place.Held w report) = tt
+  if_occupied_past : (n : ℕ) (row : List Cell) (place : Place) → IfErr (if_occupied row place) (Past n)
+  if_occupied_past n row place.Free = λ same. absurd cc
+  if_occupied_past n row (place.Ready w) = tt
+  if_occupied_past n row (place.Held w report) = tt
 
   holder_past : (n : ℕ) (i : Installation) (p : ℕ) → IfErr (holder i p) (Past n)
-  holder_past n i p = required_err (Past n) (nat_le p 7) refusal.NoSuchPlace _ (λ _ same. absurd cc) (λ exists. if_taken_past n i.row (place_at i.places p))
+  holder_past n i p = required_err (Past n) (nat_le p 7) refusal.NoSuchPlace _ (λ _ same. absurd cc) (λ exists. if_occupied_past n i.row (place_at i.places p))
 
   ask_past : (i : Installation) → Sound i → (p : ℕ) (w : Worker) → worker_at i p ≡ Some w → (what : Request (List ℕ)) → ((n : ℕ) (o : Own) → n ≤ length o.words → IfErr (served n o what) (Past n)) → IfErr (ask i p what) (Past w.span.length)
   ask_past i sound p w at what past =

@@ -9,7 +9,7 @@ use Rattle.engine.specs.declared.call.Request.{Request}
 use Rattle.engine.specs.declared.call.Request.TheVariants as request
 use Rattle.engine.specs.declared.refusal.Refusal.{Refusal}
 use Rattle.engine.specs.declared.refusal.Refusal.TheVariants as refusal
-use Rattle.engine.specs.Installation.{Installation, Holder, holder, holder_of, if_taken, place_at, place_by, words_in, row_with, with_own}
+use Rattle.engine.specs.Installation.{Installation, Holder, holder, holder_of, if_occupied, place_at, place_by, words_in, row_with, with_own}
 use Rattle.engine.specs.Own.{Own}
 use Rattle.engine.specs.Performing.{taken_or_refused, request_refused, performed}
 use Rattle.engine.specs.Serving.{Served, served, serving}
@@ -25,7 +25,7 @@ use Rattle.engine.specs.declared.place.Place.TheVariants.{Free}
 use Rattle.engine.specs.declared.place.Worker.{Worker}
 use Rattle.processor.specs.Then.{◌>>=◌}
 
-by_its_state : (row : List Cell) (state : State) (w : Worker) → if_taken row (place_by state w) ≡ Ok (holder_of row state w)
+by_its_state : (row : List Cell) (state : State) (w : Worker) → if_occupied row (place_by state w) ≡ Ok (holder_of row state w)
 by_its_state row state.Ready w = refl
 by_its_state row (state.Held report) w = refl
 
@@ -79,7 +79,7 @@ module _ (i : Installation) (p : ℕ) (h : Holder) (sound : Sound i) (held : hol
   put_back own as_many =
       let row = row_with i.row h.span.lower.0 n own.words in
       holder_is (with_own i p h.span own) p exists
-      ∙ ap (if_taken row) (set_here i.places p _ (omega (arith, exists, sound.eight)))
+      ∙ ap (if_occupied row) (set_here i.places p _ (omega (arith, exists, sound.eight)))
       ∙ by_its_state row own.state (record { span = h.span; registers = own.registers })
       ∙ ap (λ words. Ok (record { span = h.span; own = record { state = own.state; registers = own.registers; words = words } })) (words_there i.row h.span.lower.0 n (its_lies i sound p h held).inside own.words as_many)
 
@@ -110,7 +110,7 @@ module _ (i : Installation) (p : ℕ) (h : Holder) (sound : Sound i) (held : hol
   retired_alone = ap (λ r. taken_or_refused i (call.Retire p) (r >>= (λ h. Ok (record { answer = answer.Retired (Ok tt); installation = freed })))) held
 
   freed_holder : holder freed p ≡ Err refusal.PlaceFree
-  freed_holder = holder_is freed p exists ∙ ap (if_taken i.row) (set_here i.places p Free (omega (arith, exists, sound.eight)))
+  freed_holder = holder_is freed p exists ∙ ap (if_occupied i.row) (set_here i.places p Free (omega (arith, exists, sound.eight)))
 
   pub freed_told : (performed freed (call.Ask p request.Tell)).answer ≡ answer.Told (Err refusal.PlaceFree)
   unfolding performed

@@ -19,14 +19,14 @@ use Rattle.engine.specs.declared.place.Place.TheVariants as place
 use Rattle.engine.specs.declared.place.Span.{Span}
 use Rattle.engine.specs.declared.place.Worker.{Worker}
 use Rattle.engine.specs.declared.refusal.Refusal.TheVariants as refusal
-use Rattle.engine.specs.Admission.{Done, admit, retire, is_free, is_taken}
+use Rattle.engine.specs.Admission.{Done, admit, retire, is_free, overlaps_any}
 use Rattle.engine.specs.FixedAddress.{fixed_address}
 use Rattle.engine.specs.Installation.{Installation, Holder, holder, made, place_at, place_by, worker_of}
 use Rattle.engine.specs.Laws.{RegistersFit}
-use Rattle.engine.specs.Own.{Own}
+use Rattle.engine.specs.Own.{Own, is_held}
 use Rattle.engine.specs.Performing.{ask, taken}
 use Rattle.engine.specs.Refusals.{by_record}
-use Rattle.engine.specs.Serving.{Served, served, run_ready, machine_of, answered, is_held}
+use Rattle.engine.specs.Serving.{Served, served, run_ready, machine_of, answered}
 use Rattle.engine.proofs.Histories.{after_keeps, its_place, its_lies}
 use Rattle.engine.proofs.Places.{set_all, free_at, some_is, none_is}
 use Rattle.engine.proofs.Results.{OkIs, then_ok, ok_is, required_then}
@@ -51,7 +51,7 @@ module _ (n : ℕ) (few : n ≤ 32768) (o : Own) (fits : Fits o.registers) where
   answered_fitted : (a q p : ℕ) → OkIs StillFits (answered o a q p)
   answered_fitted a q p = required_then StillFits (nat_lt a (2 ^ 30) && nat_lt q (2 ^ 30) && nat_lt p (2 ^ 17)) refusal.NumberTooWide _ (λ small.
       let set : Fits (record { a = a; q = q; b = o.registers.b; p = p }) = (grind (arith, small), grind (arith, small), fits.2, fits.3, grind (arith, small)) in
-      required_then StillFits (is_held o.state) refusal.NotHeld _ (λ held. set))
+      required_then StillFits (is_held o.state) refusal.WorkerNotHeld _ (λ held. set))
 
   served_fitted : (what : Request (List ℕ)) → OkIs StillFits (served n o what)
   unfolding served
@@ -107,10 +107,10 @@ module _ (i : Installation) (sound : Sound i) (all : AllFit i) where
       let span : Span = record { lower = lower; length = terms.length } in
       let new : Worker = record { span = span; registers = starting_at terms.entry.0 } in
       required_then Fitted (nat_le p 7) refusal.NoSuchPlace _ (λ exists.
-      required_then Fitted (is_free (place_at i.places p)) refusal.PlaceTaken _ (λ free.
+      required_then Fitted (is_free (place_at i.places p)) refusal.PlaceOccupied _ (λ free.
       required_then Fitted (nat_le 1 terms.length && nat_le terms.length 32768) refusal.BadLength _ (λ good.
       required_then Fitted (nat_le (lower.0 + terms.length) (length i.row)) refusal.PastStore _ (λ inside.
-      required_then Fitted (not (is_taken span i.places)) refusal.CellTaken _ (λ apart.
+      required_then Fitted (not (overlaps_any span i.places)) refusal.CellShared _ (λ apart.
       required_then Fitted (nat_lt terms.entry.0 terms.length) refusal.EntryPastLength _ (λ below.
       let fits : Fits (starting_at terms.entry.0) = new_fits terms.entry.0 (grind (arith, below, good)) in
       set_all PlaceFits i.places p (place.Ready new) all (λ w at. subst (λ w. Fits w.registers) (some_is new w at) fits)))))))

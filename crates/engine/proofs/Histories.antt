@@ -8,7 +8,7 @@ use Rattle.engine.specs.declared.place.Span.{Span}
 use Rattle.engine.specs.declared.refusal.Refusal.{Refusal}
 use Rattle.engine.specs.declared.refusal.Refusal.TheVariants as refusal
 use Rattle.store.specs.declared.address.CellAddress.{CellAddress}
-use Rattle.engine.specs.Admission.{Done, admit, retire, span_of, is_free, is_taken}
+use Rattle.engine.specs.Admission.{Done, admit, retire, span_of, is_free, overlaps_any}
 use Rattle.engine.specs.FixedAddress.{fixed_address}
 use Rattle.engine.specs.Exchanges.{after}
 use Rattle.engine.specs.Installation.{Installation, Holder, holder, place_at}
@@ -22,8 +22,8 @@ use Rattle.engine.proofs.Sound.{Sound, Lies, asked_sound, retired_sound, admitte
 
 -- what holds of a refused call, and of a call that is taken, holds of every call
 by_result : (P : Done → Type 0) (i : Installation) (c : Call (List ℕ)) (r : Result Done Refusal) → ((e : Refusal) → P (record { answer = refused c e; installation = i })) → OkIs P r → P (taken_or_refused i c r)
-by_result P i c (Ok t) if_refused if_taken = if_taken
-by_result P i c (Err e) if_refused if_taken = if_refused e
+by_result P i c (Ok t) if_refused if_occupied = if_occupied
+by_result P i c (Err e) if_refused if_occupied = if_refused e
 
 pub of_call : (P : Done → Type 0) (i : Installation) (c : Call (List ℕ)) → ((e : Refusal) → P (record { answer = refused c e; installation = i })) → OkIs P (taken i c) → P (performed i c)
 unfolding performed
@@ -51,10 +51,10 @@ module _ (i : Installation) (sound : Sound i) where
   admit_sound p lower terms =
       let span : Span = record { lower = lower; length = terms.length } in
       required_then Leaves (nat_le p 7) refusal.NoSuchPlace _ (λ exists.
-      required_then Leaves (is_free (place_at i.places p)) refusal.PlaceTaken _ (λ free.
+      required_then Leaves (is_free (place_at i.places p)) refusal.PlaceOccupied _ (λ free.
       required_then Leaves (nat_le 1 terms.length && nat_le terms.length 32768) refusal.BadLength _ (λ good.
       required_then Leaves (nat_le (lower.0 + terms.length) (length i.row)) refusal.PastStore _ (λ inside.
-      required_then Leaves (not (is_taken span i.places)) refusal.CellTaken _ (λ apart.
+      required_then Leaves (not (overlaps_any span i.places)) refusal.CellShared _ (λ apart.
       required_then Leaves (nat_lt terms.entry.0 terms.length) refusal.EntryPastLength _ (λ below.
       admitted_sound i p _ sound (grind (arith, exists)) (record { some = grind (arith, good); few = grind (arith, good); inside = grind (arith, inside) }) (grind (arith, apart))))))))
 

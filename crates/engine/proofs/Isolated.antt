@@ -10,10 +10,10 @@ use Rattle.engine.specs.declared.call.Terms.{Terms}
 use Rattle.engine.specs.declared.place.Place.TheVariants.{Ready}
 use Rattle.engine.specs.declared.place.Span.{Span}
 use Rattle.engine.specs.declared.refusal.Refusal.TheVariants as refusal
-use Rattle.engine.specs.Admission.{Done, admit, is_free, is_taken}
-use Rattle.engine.specs.Exchanges.{calls_in, answers_in, ends_by_retire}
-use Rattle.engine.specs.Installation.{Installation, Holder, holder, if_taken, made, place_at, words_in}
-use Rattle.engine.specs.Isolation.{History, Isolation, Admits, before_admit, admission, said, at_last, worker_words, would_tell}
+use Rattle.engine.specs.Admission.{Done, admit, is_free, overlaps_any}
+use Rattle.engine.specs.Exchanges.{ends_by_retire}
+use Rattle.engine.specs.Installation.{Installation, Holder, holder, if_occupied, made, place_at, words_in}
+use Rattle.engine.specs.Isolation.{WithAdmit, Isolation, Admits, before_admit, just_after, calls_for, answers_to, at_last, words_of, would_tell}
 use Rattle.engine.specs.Own.{Own}
 use Rattle.engine.specs.Performing.{performed}
 use Rattle.engine.proofs.Alone.{alone, alone_first, Seen, seen_after}
@@ -40,42 +40,42 @@ module _ (i : Installation) (sound : Sound i) (p : ℕ) (lower : CellAddress) (t
       let span : Span = record { lower = lower; length = terms.length } in
       let places = slice_set i.places p (Ready (record { span = span; registers = starting_at terms.entry.0 })) in
       required_then Found (nat_le p 7) refusal.NoSuchPlace _ (λ exists.
-      required_then Found (is_free (place_at i.places p)) refusal.PlaceTaken _ (λ free.
+      required_then Found (is_free (place_at i.places p)) refusal.PlaceOccupied _ (λ free.
       required_then Found (nat_le 1 terms.length && nat_le terms.length 32768) refusal.BadLength _ (λ good.
       required_then Found (nat_le (lower.0 + terms.length) (length i.row)) refusal.PastStore _ (λ inside.
-      required_then Found (not (is_taken span i.places)) refusal.CellTaken _ (λ apart.
+      required_then Found (not (overlaps_any span i.places)) refusal.CellShared _ (λ apart.
       required_then Found (nat_lt terms.entry.0 terms.length) refusal.EntryPastLength _ (λ below _.
       holder_is (record i { places = places }) p (grind (arith, exists))
-      ∙ ap (if_taken i.row) (set_here i.places p _ (grind (arith, exists, sound.eight)))))))))
+      ∙ ap (if_occupied i.row) (set_here i.places p _ (grind (arith, exists, sound.eight)))))))))
 
   found : Found (performed i (call.Admit p lower terms))
   found = of_call Found i (call.Admit p lower terms) (λ e taken. absurd cc) admit_found
 
-module _ (p : ℕ) (terms : Terms) (h : History) (admits : Admits p terms h) where
-  before_sound : Sound (before_admit p terms h)
+module _ (p : ℕ) (terms : Terms) (h : WithAdmit) (admits : Admits p terms h) where
+  before_sound : Sound (before_admit h)
   before_sound = after_sound (made h.row) h.before (made_sound h.row)
 
-  begins_sound : Sound (admission p terms h).installation
-  begins_sound = performed_sound (before_admit p terms h) before_sound (call.Admit p h.lower terms)
+  begins_sound : Sound (just_after p terms h)
+  begins_sound = performed_sound (before_admit h) before_sound (call.Admit p h.lower terms)
 
   -- as it is found just after its admit
   abbrev own : Own
-  own = new_own terms (worker_words p terms h (before_admit p terms h))
+  own = new_own terms (words_of terms h (before_admit h))
 
-  begins : holder (admission p terms h).installation p ≡ Ok (record { span = record { lower = h.lower; length = terms.length }; own = own })
-  begins = found (before_admit p terms h) before_sound p h.lower terms admits
+  begins : holder (just_after p terms h) p ≡ Ok (record { span = record { lower = h.lower; length = terms.length }; own = own })
+  begins = found (before_admit h) before_sound p h.lower terms admits
 
-  answers_first : (k : ℕ) → take k (answers_in (said p terms h)) ≡ alone terms.length own (take k (calls_in (said p terms h)))
+  answers_first : (k : ℕ) → take k (answers_to p terms h) ≡ alone terms.length own (take k (calls_for p terms h))
   answers_first k =
-      ap (take k) (answered_alone p h.later (admission p terms h).installation _ begins_sound begins)
-      ∙ alone_first terms.length own k (calls_in (said p terms h))
+      ap (take k) (answered_alone p h.later (just_after p terms h) _ begins_sound begins)
+      ∙ alone_first terms.length own k (calls_for p terms h)
 
   seen : Seen
-  seen = record { told = would_tell p terms h (at_last p terms h); words = worker_words p terms h (at_last p terms h) }
+  seen = record { told = would_tell p (at_last p terms h); words = words_of terms h (at_last p terms h) }
 
-  is_seen : ends_by_retire p h.later ≡ true → seen ≡ seen_after terms.length own (calls_in (said p terms h))
+  is_seen : ends_by_retire p h.later ≡ true → seen ≡ seen_after terms.length own (calls_for p terms h)
   unfolding seen
-  is_seen ends = seen_alone p h.later ends (admission p terms h).installation _ begins_sound begins
+  is_seen ends = seen_alone p h.later ends (just_after p terms h) _ begins_sound begins
 
 pub isolated : Isolation
 unfolding seen
@@ -83,13 +83,13 @@ isolated p terms s t admits_s admits_t same_words =
     let same_own : own p terms s admits_s ≡ own p terms t admits_t = ap (new_own terms) same_words in (
       λ k same_calls.
           answers_first p terms s admits_s k
-          ∙ ap (λ o. alone terms.length o (take k (calls_in (said p terms s)))) same_own
+          ∙ ap (λ o. alone terms.length o (take k (calls_for p terms s))) same_own
           ∙ ap (alone terms.length (own p terms t admits_t)) same_calls
           ∙ sym (answers_first p terms t admits_t k),
       λ ends_s ends_t same_calls.
           let same_seen : seen p terms s admits_s ≡ seen p terms t admits_t =
           is_seen p terms s admits_s ends_s
-          ∙ ap (λ o. seen_after terms.length o (calls_in (said p terms s))) same_own
+          ∙ ap (λ o. seen_after terms.length o (calls_for p terms s)) same_own
           ∙ ap (seen_after terms.length (own p terms t admits_t)) same_calls
           ∙ sym (is_seen p terms t admits_t ends_t) in
           (ap (λ x. x.told) same_seen, ap (λ x. x.words) same_seen),

@@ -12,7 +12,8 @@ use Rattle.engine.specs.declared.refusal.Refusal.{Refusal}
 use Rattle.engine.specs.Admission.{Done, share}
 use Rattle.engine.specs.Exchanges.{after}
 use Rattle.engine.specs.Installation.{Installation, holder, made}
-use Rattle.engine.specs.Laws.{refusal_of, RefusedLeaveAll, NoCellIsShared, WorkersLieInRow}
+use Rattle.engine.specs.Refusals.{refusal_of}
+use Rattle.engine.specs.Laws.{RefusedLeaveAll, NoCellIsShared, RowKeepsLength, WorkersLieInRow}
 use Rattle.engine.specs.Performing.{ask, taken, refused, request_refused, performed}
 use Rattle.engine.proofs.Histories.{of_call, performed_sound, after_sound, its_lies, as_many}
 use Rattle.engine.proofs.Places.{span_in, some_is}
@@ -57,10 +58,13 @@ unfolding after
 after_as_long i [] sound = refl
 after_as_long i (c ∷ cs) sound = after_as_long (performed i c).installation cs (performed_sound i sound c) ∙ of_call (AsLong i) i c (λ e. refl) (taken_as_long i sound c)
 
+pub row_keeps_length : RowKeepsLength
+row_keeps_length row calls = after_as_long (made row) calls (made_sound row)
+
 pub workers_lie_in_row : WorkersLieInRow
-workers_lie_in_row row calls =
-    let long : length (after (made row) calls).row ≡ length row = after_as_long (made row) calls (made_sound row) in
-    (long, λ p w at. let lies = (sound_after row calls).lies p w.span (ap span_in at) in (lies.some, lies.few, omega (arith, lies.inside, long)))
+workers_lie_in_row row calls p w at =
+    let lies = (sound_after row calls).lies p w.span (ap span_in at) in
+    (lies.some, lies.few, omega (arith, lies.inside, row_keeps_length row calls))
 
 run_untold : (state : State) (n : ℕ) (o : Own) (budget : ℕ) → OkIs (λ s. refusal_of s.answer ≡ None) (run_ready state n o budget)
 run_untold Ready n o budget = refl

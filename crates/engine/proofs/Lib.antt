@@ -9,6 +9,7 @@ pub mod Alone
 pub mod Lives
 pub mod Isolated
 pub mod Lawful
+pub mod Numbered
 pub mod Fitted
 pub mod Reported
 pub mod Addressed

@@ -12,10 +12,10 @@ use Rattle.engine.specs.declared.place.Place.TheVariants.{Free, Ready, Held}
 use Rattle.engine.specs.declared.place.Span.{Span}
 use Rattle.engine.specs.declared.refusal.Refusal.{Refusal}
 use Rattle.engine.specs.declared.refusal.Refusal.TheVariants as refusal
-use Rattle.engine.specs.Admission.{Done, admit, retire, share, is_free, is_taken}
+use Rattle.engine.specs.Admission.{Done, admit, retire, share, is_free, overlaps_any}
 use Rattle.engine.specs.FixedAddress.{fixed_address}
 use Rattle.engine.specs.Exchanges.{is_for}
-use Rattle.engine.specs.Installation.{Installation, Holder, holder, if_taken, place_at, words_in, row_with}
+use Rattle.engine.specs.Installation.{Installation, Holder, holder, if_occupied, place_at, words_in, row_with}
 use Rattle.engine.specs.Performing.{ask, taken, performed}
 use Rattle.engine.specs.Serving.{served}
 use Rattle.engine.proofs.Histories.{of_call, its_lies, as_many}
@@ -32,13 +32,13 @@ abbrev all_reworded : List Cell → Result Holder Refusal → Result Holder Refu
 all_reworded row (Ok h) = Ok (reworded row h)
 all_reworded row (Err e) = Err e
 
-taken_reworded : (row new : List Cell) (place : Place) → if_taken new place ≡ all_reworded new (if_taken row place)
+taken_reworded : (row new : List Cell) (place : Place) → if_occupied new place ≡ all_reworded new (if_occupied row place)
 taken_reworded row new Free = refl
 taken_reworded row new (Ready w) = refl
 taken_reworded row new (Held w report) = refl
 
 -- a place has the same worker in another row that has the same words there
-same_taken : (row new : List Cell) (place : Place) (h : Holder) → words_in new h.span.lower.0 h.span.length ≡ h.own.words → if_taken row place ≡ Ok h → if_taken new place ≡ Ok h
+same_taken : (row new : List Cell) (place : Place) (h : Holder) → words_in new h.span.lower.0 h.span.length ≡ h.own.words → if_occupied row place ≡ Ok h → if_occupied new place ≡ Ok h
 same_taken row new place h same held =
     taken_reworded row new place
     ∙ ap (all_reworded new) held
@@ -53,7 +53,7 @@ apart_words row s t words inside as_many apart =
     (λ below. words_below row s.lower.0 s.length inside words as_many t.lower.0 t.length below)
     sides
 
-is_not_free : (row : List Cell) (place : Place) (h : Holder) → if_taken row place ≡ Ok h → is_free place ≡ true → ⊥
+is_not_free : (row : List Cell) (place : Place) (h : Holder) → if_occupied row place ≡ Ok h → is_free place ≡ true → ⊥
 is_not_free row Free h held free = let e : Err refusal.PlaceFree ≡ Ok h = held in cc
 is_not_free row (Ready w) h held free = cc
 is_not_free row (Held w report) h held free = cc
@@ -70,17 +70,17 @@ module _ (i : Installation) (sound : Sound i) (p : ℕ) (h : Holder) (held : hol
   stays row q place other same =
       let j : Installation = record { row = row; places = slice_set i.places q place } in
       holder_is j p (holder_span i p h held).0
-      ∙ ap (if_taken row) (set_there i.places q place p other)
+      ∙ ap (if_occupied row) (set_there i.places q place p other)
       ∙ same_taken i.row row (place_at i.places p) h (same ∙ sym holds.words_are) (taken_is i p h held)
 
   admit_stays : (q : ℕ) (lower : CellAddress) (terms : Terms) → OkIs Stays (admit i q lower terms)
   admit_stays q lower terms =
       let span : Span = record { lower = lower; length = terms.length } in
       required_then Stays (nat_le q 7) refusal.NoSuchPlace _ (λ exists.
-      required_then Stays (is_free (place_at i.places q)) refusal.PlaceTaken _ (λ free.
+      required_then Stays (is_free (place_at i.places q)) refusal.PlaceOccupied _ (λ free.
       required_then Stays (nat_le 1 terms.length && nat_le terms.length 32768) refusal.BadLength _ (λ good.
       required_then Stays (nat_le (lower.0 + terms.length) (length i.row)) refusal.PastStore _ (λ inside.
-      required_then Stays (not (is_taken span i.places)) refusal.CellTaken _ (λ apart.
+      required_then Stays (not (overlaps_any span i.places)) refusal.CellShared _ (λ apart.
       required_then Stays (nat_lt terms.entry.0 terms.length) refusal.EntryPastLength _ (λ below.
       stays i.row q _ (λ same. is_not_free i.row (place_at i.places p) h (taken_is i p h held) (subst (λ q. is_free (place_at i.places q) ≡ true) (sym same) free)) refl))))))
 

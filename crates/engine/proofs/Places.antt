@@ -12,7 +12,7 @@ use Rattle.engine.specs.declared.place.Span.{Span}
 use Rattle.engine.specs.declared.place.Worker.{Worker}
 use Rattle.engine.specs.declared.refusal.Refusal.TheVariants.{NoSuchPlace}
 use Rattle.store.specs.Cells.{Cell}
-use Rattle.engine.specs.Installation.{Installation, Holder, place_at, place_by, worker_of, holder, if_taken, words_in}
+use Rattle.engine.specs.Installation.{Installation, Holder, place_at, place_by, worker_of, holder, if_occupied, words_in}
 use Rattle.engine.specs.Refusals.{require}
 use Rattle.engine.proofs.Results.{OkIs, ok_is, required_then}
 
@@ -50,10 +50,10 @@ pub record Holds (row : List Cell) (place : Place) (h : Holder) : Type 0 where
   pub place_is : place ≡ place_by h.own.state (record { span = h.span; registers = h.own.registers })
   pub words_are : h.own.words ≡ words_in row h.span.lower.0 h.span.length
 
-if_taken_holds : (row : List Cell) (place : Place) → OkIs (Holds row place) (if_taken row place)
-if_taken_holds row Free = tt
-if_taken_holds row (Ready w) = record { place_is = refl; words_are = refl }
-if_taken_holds row (Held w report) = record { place_is = refl; words_are = refl }
+if_occupied_holds : (row : List Cell) (place : Place) → OkIs (Holds row place) (if_occupied row place)
+if_occupied_holds row Free = tt
+if_occupied_holds row (Ready w) = record { place_is = refl; words_are = refl }
+if_occupied_holds row (Held w report) = record { place_is = refl; words_are = refl }
 
 pub some_is : {X : Type 0} → (x y : X) → Some x ≡ Some y → x ≡ y
 some_is x y e = cc
@@ -71,16 +71,16 @@ and_that P (Ok x) c holds = (c, holds)
 and_that P (Err e) c holds = tt
 
 pub holder_holds : (i : Installation) (p : ℕ) → OkIs (λ h. (p ≤ 7) × Holds i.row (place_at i.places p) h) (holder i p)
-holder_holds i p = required_then (λ h. (p ≤ 7) × Holds i.row (place_at i.places p) h) (nat_le p 7) NoSuchPlace (if_taken i.row (place_at i.places p))
-    (λ exists. and_that (Holds i.row (place_at i.places p)) (if_taken i.row (place_at i.places p)) (grind (arith, exists)) (if_taken_holds i.row (place_at i.places p)))
+holder_holds i p = required_then (λ h. (p ≤ 7) × Holds i.row (place_at i.places p) h) (nat_le p 7) NoSuchPlace (if_occupied i.row (place_at i.places p))
+    (λ exists. and_that (Holds i.row (place_at i.places p)) (if_occupied i.row (place_at i.places p)) (grind (arith, exists)) (if_occupied_holds i.row (place_at i.places p)))
 
 -- a place that there is
-pub holder_is : (i : Installation) (p : ℕ) → p ≤ 7 → holder i p ≡ if_taken i.row (place_at i.places p)
+pub holder_is : (i : Installation) (p : ℕ) → p ≤ 7 → holder i p ≡ if_occupied i.row (place_at i.places p)
 holder_is i p exists =
     let there : nat_le p 7 ≡ true = grind (arith, exists) in
-    ap (λ b. require b NoSuchPlace >>= (λ _. if_taken i.row (place_at i.places p))) there
+    ap (λ b. require b NoSuchPlace >>= (λ _. if_occupied i.row (place_at i.places p))) there
 
-pub taken_is : (i : Installation) (p : ℕ) (h : Holder) → holder i p ≡ Ok h → if_taken i.row (place_at i.places p) ≡ Ok h
+pub taken_is : (i : Installation) (p : ℕ) (h : Holder) → holder i p ≡ Ok h → if_occupied i.row (place_at i.places p) ≡ Ok h
 taken_is i p h held = sym (holder_is i p (ok_is (λ h. (p ≤ 7) × Holds i.row (place_at i.places p) h) (holder i p) h held (holder_holds i p)).0) ∙ held
 
 pub holder_span : (i : Installation) (p : ℕ) (h : Holder) → holder i p ≡ Ok h → (p ≤ 7) × (span_at i.places p ≡ Some h.span)

@@ -1,10 +1,16 @@
 -- No report that a worker is held with tells that the store has no cell, after any history from the making.
-use Rattle.std.proofs.Common.{ℕ, ◌≤◌, List, length, sym, subst, arith}
+use Rattle.std.proofs.Common.{ℕ, ◌≡◌, ◌≤◌, List, length, Some, Ok, ap, sym, ◌∙◌, subst, arith}
 use Rattle.processor.specs.declared.outcome.Ending.{Ending}
 use Rattle.processor.specs.declared.outcome.Ending.TheVariants.{Spent, Interrupted}
-use Rattle.processor.specs.Run.{run}
+use Rattle.processor.specs.Run.{run, report_of}
 use Rattle.processor.proofs.Referred.{OfCell}
 use Rattle.processor.proofs.Whole.{EndingOfCell, run_of_cell}
+use Rattle.processor.specs.declared.outcome.Ran.{Ran}
+use Rattle.processor.specs.declared.report.Report.{Report}
+use Rattle.engine.specs.declared.answer.Answer.{Answer}
+use Rattle.engine.specs.declared.answer.Answer.TheVariants as answer
+use Rattle.engine.specs.Exchanges.{after}
+use Rattle.engine.proofs.Lawful.{sound_after}
 use Rattle.engine.specs.declared.answer.State.{State}
 use Rattle.engine.specs.declared.answer.State.TheVariants.{Ready, Held}
 use Rattle.engine.specs.declared.call.Call.{Call}
@@ -17,12 +23,12 @@ use Rattle.engine.specs.declared.place.Worker.{Worker}
 use Rattle.engine.specs.Admission.{Done}
 use Rattle.engine.specs.FixedAddress.{fixed_address}
 use Rattle.engine.specs.Installation.{Installation, holder, made, place_at, place_by}
-use Rattle.engine.specs.Laws.{NoReportOfNoCell}
+use Rattle.engine.specs.Laws.{NoReportOfNoCell, NoRunEndsInNoCell}
 use Rattle.engine.specs.Own.{Own}
 use Rattle.engine.specs.Performing.{ask, taken}
 use Rattle.engine.specs.Serving.{Served, served, run_ready, machine_of, state_after}
-use Rattle.engine.proofs.Histories.{after_keeps, its_place, its_words}
-use Rattle.engine.proofs.Places.{set_all, free_at}
+use Rattle.engine.proofs.Histories.{after_keeps, its_place, its_words, of_call}
+use Rattle.engine.proofs.Places.{set_all, free_at, some_is, none_is}
 use Rattle.engine.proofs.Results.{OkIs, then_ok, ok_is}
 use Rattle.engine.proofs.Sound.{Sound, made_sound}
 
@@ -93,3 +99,37 @@ module _ (i : Installation) (sound : Sound i) (all : AllOfCell i) where
 pub no_report_of_no_cell : NoReportOfNoCell
 no_report_of_no_cell row calls p w report held =
     subst PlaceOfCell held (after_keeps AllOfCell taken_leaves (made row) calls (made_sound row) (λ q. subst PlaceOfCell (sym (free_at 8 q)) tt) p)
+
+-- what a run tells
+ending_tells : (ending : Ending) (report : Report) → EndingOfCell ending → report_of ending ≡ Some report → OfCell report
+ending_tells Spent report there same = absurd (none_is report same)
+ending_tells (Interrupted r) report there same = subst OfCell (some_is r report same) there
+
+abbrev Tells : Answer (List ℕ) → Type 0
+Tells a = (ran : Ran) (report : Report) → a ≡ answer.Ran (Ok ran) → report_of ran.ending ≡ Some report → OfCell report
+
+ran_tells : (ran : Ran) → EndingOfCell ran.ending → Tells (answer.Ran (Ok ran))
+ran_tells ran there told report same ends = ending_tells ran.ending report there (ap (λ r. report_of r.ending) same_ran ∙ ends)
+  where
+    same_ran : ran ≡ told
+    same_ran = cc
+
+module _ (n : ℕ) (o : Own) (all : n ≤ length o.words) where
+  ready_tells : (state : State) (budget : ℕ) → OkIs (λ s. Tells s.answer) (run_ready state n o budget)
+  ready_tells Ready budget = ran_tells (run budget (machine_of n o)).told (run_of_cell budget (machine_of n o) all)
+  ready_tells (Held report) budget = tt
+
+  run_tells : (budget : ℕ) → OkIs (λ s. Tells s.answer) (served n o (request.Run budget))
+  unfolding served
+  run_tells budget = search (then_ok, ready_tells)
+
+ask_tells : (i : Installation) → Sound i → (p budget : ℕ) → OkIs (λ t. Tells t.answer) (ask i p (request.Run budget))
+ask_tells i sound p budget =
+    then_ok (λ t. Tells t.answer) (holder i p) _ (λ h held.
+    then_ok (λ t. Tells t.answer) (served h.span.length h.own (request.Run budget)) _ (λ s gave.
+    ok_is (λ s. Tells s.answer) (served h.span.length h.own (request.Run budget)) s gave (run_tells h.span.length h.own (omega (arith, its_words i sound p h held)) budget)))
+
+pub no_run_ends_in_no_cell : NoRunEndsInNoCell
+no_run_ends_in_no_cell row calls p budget =
+    let i = after (made row) calls in
+    of_call (λ t. Tells t.answer) i (call.Ask p (request.Run budget)) (λ e ran report told. absurd cc) (ask_tells i (sound_after row calls) p budget)

@@ -3,7 +3,7 @@ use Rattle.std.proofs.Common.{ℕ, ◌⊎◌, ⊎_elim, sym, ap, ◌∙◌, subs
 use Rattle.std.proofs.lemmas.List.{length-set}
 use Rattle.store.specs.Cells.{Cell}
 use Rattle.engine.specs.declared.place.Span.{Span}
-use Rattle.engine.specs.Admission.{share, shares, is_taken}
+use Rattle.engine.specs.Admission.{share, shares, overlaps_any}
 use Rattle.engine.specs.Installation.{Installation, Holder, made, holder, place_at, place_by, worker_of, with_own}
 use Rattle.engine.specs.Own.{Own}
 use Rattle.engine.specs.declared.place.Place.TheVariants.{Free, Ready}
@@ -72,7 +72,7 @@ shares_span s t None at apart = absurd cc
 shares_span s t (Some w) at apart = subst (λ t. share s t ≡ false) (some_is w.span t at) apart
 
 -- one is admitted: it lies in the row, and shares no cell
-module _ (i : Installation) (p : ℕ) (w : Worker) (sound : Sound i) (exists : p ≤ 7) (lies : Lies i.row w.span) (apart : is_taken w.span i.places ≡ false) where
+module _ (i : Installation) (p : ℕ) (w : Worker) (sound : Sound i) (exists : p ≤ 7) (lies : Lies i.row w.span) (apart : overlaps_any w.span i.places ≡ false) where
   abbrev then_at : ℕ → Option Span
   then_at q = span_at (slice_set i.places p (Ready w)) q
 

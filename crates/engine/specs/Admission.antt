@@ -35,17 +35,17 @@ shares span None = false
 shares span (Some w) = share span w.span
 
 -- a span shares a cell with the worker of some place
-abbrev pub is_taken : Span → List Place → Bool
-is_taken span places = list_any (λ place. shares span (worker_of place)) places
+abbrev pub overlaps_any : Span → List Place → Bool
+overlaps_any span places = list_any (λ place. shares span (worker_of place)) places
 
--- a ready worker: P is the entry, all other registers are 0, and its words are what the cells hold
+-- the new worker is ready to run from its entry, with all else 0 in its registers; it has the words that lie in its cells
 abbrev pub admit : Installation → ℕ → CellAddress → Terms → Result Done Refusal
 admit i p lower terms = let span : Span = record { lower = lower; length = terms.length } in do
   exists ← require (nat_le p 7) refusal.NoSuchPlace
-  free ← require (is_free (place_at i.places p)) refusal.PlaceTaken
+  free ← require (is_free (place_at i.places p)) refusal.PlaceOccupied
   good ← require (nat_le 1 terms.length && nat_le terms.length 32768) refusal.BadLength
   inside ← require (nat_le (lower.0 + terms.length) (length i.row)) refusal.PastStore
-  apart ← require (not (is_taken span i.places)) refusal.CellTaken
+  apart ← require (not (overlaps_any span i.places)) refusal.CellShared
   below ← require (nat_lt terms.entry.0 terms.length) refusal.EntryPastLength
   Ok (record {
     answer = answer.Admitted (Ok tt);

@@ -49,11 +49,11 @@ exchanges_with p (e ∷ es) =
     else (if is_for p e.call then e ∷ exchanges_with p es
     else exchanges_with p es)
 
--- no call follows the worker's retire
 abbrev pub is_empty : List (Call (List ℕ)) → Bool
 is_empty [] = true
 is_empty (c ∷ cs) = false
 
+-- no call follows the worker's retire
 unfoldable pub ends_by_retire : ℕ → List (Call (List ℕ)) → Bool
 ends_by_retire p [] = true
 ends_by_retire p (c ∷ cs) = if is_retire p c then is_empty cs else ends_by_retire p cs

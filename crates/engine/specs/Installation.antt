@@ -36,11 +36,11 @@ worker_at i p = worker_of (place_at i.places p)
 abbrev pub words_in : List Cell → (lower length : ℕ) → List Cell
 words_in row lower n = take n (drop lower row)
 
--- and the row with other words there
+-- the row with other words there
 abbrev pub row_with : List Cell → (lower length : ℕ) → List Cell → List Cell
 row_with row lower n words = take lower row ++ words ++ drop (lower + n) row
 
--- a worker as it sees itself, if the place has one
+-- where a worker lies, and what it has of its own
 pub record Holder : Type 0 where
   pub span : Span
   pub own : Own
@@ -48,15 +48,15 @@ pub record Holder : Type 0 where
 abbrev pub holder_of : List Cell → State → Worker → Holder
 holder_of row s w = record { span = w.span; own = record { state = s; registers = w.registers; words = words_in row w.span.lower.0 w.span.length } }
 
-abbrev pub if_taken : List Cell → Place → Result Holder Refusal
-if_taken row Free = Err PlaceFree
-if_taken row (Ready w) = Ok (holder_of row state.Ready w)
-if_taken row (Held w report) = Ok (holder_of row (state.Held report) w)
+abbrev pub if_occupied : List Cell → Place → Result Holder Refusal
+if_occupied row Free = Err PlaceFree
+if_occupied row (Ready w) = Ok (holder_of row state.Ready w)
+if_occupied row (Held w report) = Ok (holder_of row (state.Held report) w)
 
 abbrev pub holder : Installation → ℕ → Result Holder Refusal
 holder i p = do
   exists ← require (nat_le p 7) NoSuchPlace
-  if_taken i.row (place_at i.places p)
+  if_occupied i.row (place_at i.places p)
 
 -- the place of a worker, by its state
 abbrev pub place_by : State → Worker → Place

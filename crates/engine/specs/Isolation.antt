@@ -1,4 +1,4 @@
--- Isolation: no worker's answers, registers or words depend on where it lies, or on what else the installation is asked to do.
+-- Isolation: no worker's answers, state, registers or words depend on where it lies, or on what else the installation is asked to do.
 use Rattle.std.specs.Prelude.{◌≡◌, ℕ, true, List, take, Ok}
 use Rattle.store.specs.Cells.{Cell}
 use Rattle.store.specs.declared.address.CellAddress.{CellAddress}
@@ -13,57 +13,67 @@ use Rattle.engine.specs.Exchanges.{Exchange, calls_in, answers_in, exchanges, af
 use Rattle.engine.specs.Installation.{Installation, made, words_in}
 use Rattle.engine.specs.Performing.{performed}
 
--- an installation over a row from its making: the calls before a worker is admitted, its lower limit, and the calls after that
-pub record History : Type 0 where
+-- a history in which a worker is admitted: the row at the making, the calls before the admit, the lower limit that the admit gives, and the calls after it
+pub record WithAdmit : Type 0 where
   pub row : List Cell
   pub before : List (Call (List ℕ))
   pub lower : CellAddress
   pub later : List (Call (List ℕ))
 
-module _ (p : ℕ) (terms : Terms) (h : History) where
-  -- the installation that the worker comes to, and what comes of its admit
-  abbrev pub before_admit : Installation
-  before_admit = after (made h.row) h.before
+-- the installation before the admit
+abbrev pub before_admit : WithAdmit → Installation
+before_admit h = after (made h.row) h.before
 
-  abbrev pub admission : Done
-  admission = performed before_admit (call.Admit p h.lower terms)
+-- the words of a worker on such terms: those from its lower limit on, as many as its length, both as given to the admit
+abbrev pub words_of : Terms → WithAdmit → Installation → List Cell
+words_of terms h i = words_in i.row h.lower.0 terms.length
 
-  abbrev pub Admits : Type 0
-  Admits = admission.answer ≡ answer.Admitted (Ok tt)
+-- what a tell would answer
+abbrev pub would_tell : ℕ → Installation → Answer (List ℕ)
+would_tell p i = (performed i (call.Ask p request.Tell)).answer
 
-  -- what is said to the worker and by it
-  abbrev pub said : List Exchange
-  said = exchanges_with p (exchanges admission.installation h.later)
+module _ (p : ℕ) (terms : Terms) where
+  -- the admit, and whether it is taken
+  abbrev pub admission : WithAdmit → Done
+  admission h = performed (before_admit h) (call.Admit p h.lower terms)
 
-  -- the installation after the last call
-  abbrev pub at_last : Installation
-  at_last = after admission.installation h.later
+  abbrev pub Admits : WithAdmit → Type 0
+  Admits h = (admission h).answer ≡ answer.Admitted (Ok tt)
 
-  -- the worker's words: those from its lower limit on, as many as its length, both as given to the admit
-  abbrev pub worker_words : Installation → List Cell
-  worker_words i = words_in i.row h.lower.0 terms.length
+  -- the installation just after it, and after the last call
+  abbrev pub just_after : WithAdmit → Installation
+  just_after h = (admission h).installation
 
-  -- what a tell would answer
-  abbrev pub would_tell : Installation → Answer (List ℕ)
-  would_tell i = (performed i (call.Ask p request.Tell)).answer
+  abbrev pub at_last : WithAdmit → Installation
+  at_last h = after (just_after h) h.later
 
--- if the first k calls for two workers are the same, so are the first k answers to them
-abbrev pub AnsweredAlike : List Exchange → List Exchange → Type 0
-AnsweredAlike s t = (k : ℕ) → take k (calls_in s) ≡ take k (calls_in t) → take k (answers_in s) ≡ take k (answers_in t)
+  -- the calls for the worker, and the answers to them
+  abbrev pub said : WithAdmit → List Exchange
+  said h = exchanges_with p (exchanges (just_after h) h.later)
 
--- if all calls for two workers so far are the same, a tell would answer the same, and their words are equal
-abbrev pub SeenAlike : ℕ → Terms → History → History → Type 0
-SeenAlike p terms s t =
-    calls_in (said p terms s) ≡ calls_in (said p terms t)
-    → (would_tell p terms s (at_last p terms s) ≡ would_tell p terms t (at_last p terms t))
-    × (worker_words p terms s (at_last p terms s) ≡ worker_words p terms t (at_last p terms t))
+  abbrev pub calls_for : WithAdmit → List (Call (List ℕ))
+  calls_for h = calls_in (said h)
 
--- In any two histories in which a worker is admitted to the same place on the same terms, and finds equal words: it is answered alike for ever, and it is
--- seen alike at every moment from just after its admit up to just after its retire
+  abbrev pub answers_to : WithAdmit → List (Answer (List ℕ))
+  answers_to h = answers_in (said h)
+
+  -- two workers are answered alike: if the first k calls for the two are equal, the first k answers are
+  abbrev pub AnsweredAlike : WithAdmit → WithAdmit → Type 0
+  AnsweredAlike s t = (k : ℕ) → take k (calls_for s) ≡ take k (calls_for t) → take k (answers_to s) ≡ take k (answers_to t)
+
+  -- they are seen alike at the ends of the two histories: if all calls for the two are equal, so is what a tell would answer, and so are their words
+  abbrev pub SeenAlike : WithAdmit → WithAdmit → Type 0
+  SeenAlike s t =
+      calls_for s ≡ calls_for t
+      → (would_tell p (at_last s) ≡ would_tell p (at_last t))
+      × (words_of terms s (at_last s) ≡ words_of terms t (at_last t))
+
+-- Take any two histories in which a worker is admitted to the same place on the same terms, and finds equal words. Up to its retire it is answered alike; and it is seen
+-- alike at every moment from just after its admit to just after its retire. A moment is the end of a history, of which `later` has the calls up to then.
 abbrev pub Isolation : Type 0
-Isolation = (p : ℕ) (terms : Terms) (s t : History)
+Isolation = (p : ℕ) (terms : Terms) (s t : WithAdmit)
     → Admits p terms s
     → Admits p terms t
-    → worker_words p terms s (before_admit p terms s) ≡ worker_words p terms t (before_admit p terms t)
-    → AnsweredAlike (said p terms s) (said p terms t)
+    → words_of terms s (before_admit s) ≡ words_of terms t (before_admit t)
+    → AnsweredAlike p terms s t
     × (ends_by_retire p s.later ≡ true → ends_by_retire p t.later ≡ true → SeenAlike p terms s t)

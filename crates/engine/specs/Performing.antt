@@ -29,7 +29,7 @@ taken i (call.FixedAddress number cell) = do
   address ← fixed_address number cell.0
   Ok (record { answer = answer.FixedAddress (Ok address); installation = i })
 
--- a call that is refused: its answer; a save's has the buffer as it was
+-- the answer to a call that is refused; a save's has the buffer as it was
 abbrev pub request_refused : Request (List ℕ) → Refusal → Answer (List ℕ)
 request_refused (request.Load r w) e = answer.Loaded (Err e)
 request_refused (request.Look r) e = answer.Looked (Err e)

@@ -1,37 +1,39 @@
 -- What a refusal tells, and the tests that lead to one.
-use Rattle.std.specs.Prelude.{ℕ, Bool, if◌then◌else◌, Option, Some, None, Result, Ok, Err}
+use Rattle.std.specs.Prelude.{ℕ, Bool, List, if◌then◌else◌, Option, Some, None, Result, Ok, Err}
 use Rattle.store.specs.declared.fault.Fault.{Fault}
 use Rattle.store.specs.declared.fault.Fault.TheVariants as fault
 use Rattle.store.specs.declared.half.Half.{Half}
 use Rattle.records.specs.declared.fault.BufferTooShort.{BufferTooShort}
 use Rattle.records.specs.declared.fault.RecordFault.{RecordFault}
 use Rattle.records.specs.declared.fault.RecordFault.TheVariants as record_fault
+use Rattle.engine.specs.declared.answer.Answer.{Answer}
+use Rattle.engine.specs.declared.answer.Answer.TheVariants as answer
 use Rattle.engine.specs.declared.refusal.Refusal.{Refusal}
-use Rattle.engine.specs.declared.refusal.Refusal.TheVariants.{NoSuchPlace, PlaceTaken, PlaceFree, BadLength, PastStore, CellTaken, EntryPastLength, AddressPastLength, NumberTooWide, BudgetTooLarge, Held, NotHeld, BufferTooShort as ShortBuffer, NoFixedAddress, RecordTooShort, RecordLength, RecordVersion, FieldTooWide, Spoiled}
+use Rattle.engine.specs.declared.refusal.Refusal.TheVariants.{NoSuchPlace, PlaceOccupied, PlaceFree, BadLength, PastStore, CellShared, EntryPastLength, AddressPastLength, NumberTooWide, BudgetTooLarge, WorkerHeld, WorkerNotHeld, ShortBuffer, NoFixedAddress, ShortRecord, RecordLength, RecordVersion, FieldTooWide, Spoiled}
 
 -- the numbers of refusals
 abbrev pub number_of : Refusal → ℕ
 number_of NoSuchPlace = 1
-number_of PlaceTaken = 2
+number_of PlaceOccupied = 2
 number_of PlaceFree = 3
 number_of BadLength = 4
 number_of PastStore = 5
-number_of CellTaken = 6
+number_of CellShared = 6
 number_of EntryPastLength = 7
 number_of AddressPastLength = 8
 number_of NumberTooWide = 9
 number_of BudgetTooLarge = 10
-number_of Held = 11
-number_of NotHeld = 12
+number_of WorkerHeld = 11
+number_of WorkerNotHeld = 12
 number_of ShortBuffer = 13
 number_of NoFixedAddress = 14
-number_of RecordTooShort = 15
+number_of ShortRecord = 15
 number_of RecordLength = 16
 number_of RecordVersion = 17
 number_of (FieldTooWide offset) = 18
 number_of (Spoiled half) = 19
 
--- and what one names besides: the offset of a field, and a half
+-- the offset of a field that one names besides, and the half
 abbrev pub offset_of : Refusal → Option ℕ
 offset_of (FieldTooWide offset) = Some offset
 offset_of refusal = None
@@ -39,6 +41,33 @@ offset_of refusal = None
 abbrev pub half_of : Refusal → Option Half
 half_of (Spoiled half) = Some half
 half_of refusal = None
+
+-- all that a refusal tells
+pub record Told : Type 0 where
+  pub number : ℕ
+  pub offset : Option ℕ
+  pub half : Option Half
+
+abbrev pub told_by : Refusal → Told
+told_by refusal = record { number = number_of refusal; offset = offset_of refusal; half = half_of refusal }
+
+-- the refusal that an answer tells, if it tells one
+abbrev pub err_of : {X : Type 0} → Result X Refusal → Option Refusal
+err_of (Ok x) = None
+err_of (Err e) = Some e
+
+abbrev pub refusal_of : Answer (List ℕ) → Option Refusal
+refusal_of (answer.Admitted r) = err_of r
+refusal_of (answer.Loaded r) = err_of r
+refusal_of (answer.Looked r) = err_of r
+refusal_of (answer.Ran r) = err_of r
+refusal_of (answer.Answered r) = err_of r
+refusal_of (answer.Saved r buffer) = err_of r
+refusal_of (answer.Restored r) = err_of r
+refusal_of (answer.Told r) = err_of r
+refusal_of (answer.Retired r) = err_of r
+refusal_of (answer.Spanned r) = err_of r
+refusal_of (answer.FixedAddress r) = err_of r
 
 -- goes on if a test holds, and otherwise refuses
 abbrev pub require : Bool → Refusal → Result (Unit {0}) Refusal
@@ -57,7 +86,7 @@ by_buffer (Err e) = Err ShortBuffer
 
 abbrev pub by_record : {X : Type 0} → Result X RecordFault → Result X Refusal
 by_record (Ok x) = Ok x
-by_record (Err record_fault.TooShort) = Err RecordTooShort
+by_record (Err record_fault.TooShort) = Err ShortRecord
 by_record (Err record_fault.WrongLength) = Err RecordLength
 by_record (Err record_fault.WrongVersion) = Err RecordVersion
 by_record (Err (record_fault.TooWide offset)) = Err (FieldTooWide offset)

@@ -1,5 +1,5 @@
 -- What is asked of a worker: what it answers and what it leaves of the worker, by its length n and its own state, registers and words.
-use Rattle.std.specs.Prelude.{ℕ, ◌^◌, Bool, true, false, ◌&&◌, List, nat_lt, nat_le, Result, Ok, Err}
+use Rattle.std.specs.Prelude.{ℕ, ◌^◌, ◌&&◌, List, nat_lt, nat_le, Result, Ok, Err}
 use Rattle.store.specs.Functions.{fetched, put_whole_answer, whole_put}
 use Rattle.records.specs.Record.{write_answer, written, record_read}
 use Rattle.processor.specs.declared.outcome.Ending.{Ending}
@@ -15,7 +15,7 @@ use Rattle.engine.specs.declared.call.Request.{Request}
 use Rattle.engine.specs.declared.call.Request.TheVariants as request
 use Rattle.engine.specs.declared.refusal.Refusal.{Refusal}
 use Rattle.engine.specs.declared.refusal.Refusal.TheVariants as refusal
-use Rattle.engine.specs.Own.{Own}
+use Rattle.engine.specs.Own.{Own, is_held}
 use Rattle.engine.specs.Refusals.{require, by_store, by_buffer, by_record}
 
 -- an answer, and the worker after it
@@ -25,10 +25,6 @@ pub record Served : Type 0 where
 
 abbrev pub serving : Answer (List ℕ) → Own → Served
 serving a o = record { answer = a; own = o }
-
-abbrev pub is_held : State → Bool
-is_held Ready = false
-is_held (Held report) = true
 
 -- puts a word whole
 abbrev pub load : ℕ → Own → (address word : ℕ) → Result Served Refusal
@@ -45,10 +41,11 @@ look n o r = do
   w ← by_store (fetched o.words r)
   Ok (serving (answer.Looked (Ok w)) o)
 
--- runs a ready worker; one that is interrupted is held
+-- a worker's machine
 abbrev pub machine_of : ℕ → Own → Machine
 machine_of n o = record { length = n; registers = o.registers; words = o.words }
 
+-- the worker after a run
 abbrev pub state_after : Ending → State
 state_after Spent = Ready
 state_after (Interrupted report) = Held report
@@ -59,8 +56,9 @@ ran outcome = serving (answer.Ran (Ok outcome.told))
 
 abbrev pub run_ready : State → ℕ → Own → (budget : ℕ) → Result Served Refusal
 run_ready Ready n o budget = Ok (ran (run budget (machine_of n o)))
-run_ready (Held report) n o budget = Err refusal.Held
+run_ready (Held report) n o budget = Err refusal.WorkerHeld
 
+-- runs a ready worker; one that is interrupted is held afterwards
 abbrev pub run_worker : ℕ → Own → (budget : ℕ) → Result Served Refusal
 run_worker n o budget = do
   allowed ← require (nat_le budget 1000000) refusal.BudgetTooLarge
@@ -70,7 +68,7 @@ run_worker n o budget = do
 abbrev pub answered : Own → (a q p : ℕ) → Result Served Refusal
 answered o a q p = do
   fit ← require (nat_lt a (2 ^ 30) && nat_lt q (2 ^ 30) && nat_lt p (2 ^ 17)) refusal.NumberTooWide
-  held ← require (is_held o.state) refusal.NotHeld
+  held ← require (is_held o.state) refusal.WorkerNotHeld
   Ok (serving (answer.Answered (Ok tt)) (record o { state = Ready; registers = record { a = a; q = q; b = o.registers.b; p = p } }))
 
 -- writes the register record at the front of a buffer, and answers the whole buffer

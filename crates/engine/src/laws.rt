@@ -1,7 +1,7 @@
 // The laws of the definition of calls. Each function does nothing: its contract is all there is to it. They speak of the definition, in
 // specs/, and not yet of running code.
 ghost use Rattle.engine.specs.Isolation.{Isolation};
-ghost use Rattle.engine.specs.Laws.{RefusedLeaveAll, NoCellIsShared, WorkersLieInRow, RegistersFit, NoReportOfNoCell, WordsBelowLength};
+ghost use Rattle.engine.specs.Laws.{RefusedLeaveAll, NoCellIsShared, RowKeepsLength, WorkersLieInRow, RegistersFit, NoReportOfNoCell, NoRunEndsInNoCell, WordsBelowLength, CausesAreNumbered};
 
 // No worker's answers, registers or words depend on where it lies or on what else is called.
 pub fn definition_isolates_workers()
@@ -13,10 +13,11 @@ pub fn definition_leaves_all_on_refusal()
     ensures { RefusedLeaveAll }
 {}
 
-// No two workers have a cell in common, after any history from the making; and each lies in the row.
+// After any history from the making no two workers have a cell in common, each lies in the row, and the row is as long as it was.
 pub fn definition_keeps_workers_apart()
     ensures apart { NoCellIsShared }
     ensures inside { WorkersLieInRow }
+    ensures length { RowKeepsLength }
 {}
 
 // The registers of every worker have no more bits than they can have, after any history from the making.
@@ -24,9 +25,15 @@ pub fn definition_keeps_registers_in_their_widths()
     ensures { RegistersFit }
 {}
 
-// A worker finds all its words, after any history from the making: no report that it is held with tells that the store has no cell, and no
-// address below its length is refused as one past it.
+// A worker finds all its words, after any history from the making: no report that it is held with or that its run answers tells that the
+// store has no cell, and no address below its length is refused as one past it.
 pub fn definition_finds_every_word()
-    ensures reported { NoReportOfNoCell }
+    ensures held { NoReportOfNoCell }
+    ensures ran { NoRunEndsInNoCell }
     ensures addressed { WordsBelowLength }
+{}
+
+// The five causes and the numbers 1 to 5 go together.
+pub fn definition_numbers_causes()
+    ensures { CausesAreNumbered }
 {}

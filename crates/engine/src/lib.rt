@@ -12,7 +12,7 @@ pub use call::{Call, Request, Terms};
 pub use laws::{
     definition_finds_every_word, definition_isolates_workers,
     definition_keeps_registers_in_their_widths, definition_keeps_workers_apart,
-    definition_leaves_all_on_refusal,
+    definition_leaves_all_on_refusal, definition_numbers_causes,
 };
 pub use place::{Place, Span, Worker};
 pub use refusal::Refusal;

@@ -16,7 +16,7 @@ pub struct Worker {
     pub registers: Registers,
 }
 
-// A place is free, or its worker is ready to run, or held by an interrupt until it is answered.
+// A place is free, or its worker is ready to run, or held by an interrupt until it is answered or restored.
 #[derive(Clone, Copy, Debug, PartialEq, Eq)]
 pub enum Place {
     Free,

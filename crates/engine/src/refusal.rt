@@ -4,36 +4,42 @@ use store::Half;
 // The refusals, numbered from 1 in this order. A refused call leaves everything as it was.
 #[derive(Clone, Copy, Debug, PartialEq, Eq)]
 pub enum Refusal {
-    // the place is above 7; it has a worker already; it has none
+    // The place is above 7.
     NoSuchPlace,
-    PlaceTaken,
+    // The place has a worker already.
+    PlaceOccupied,
+    // The place has no worker.
     PlaceFree,
-    // a length of 0, or above 32,768
+    // The length is 0 or above 32,768.
     BadLength,
-    // cells past the end of the store
+    // The cells would end past the end of the store.
     PastStore,
-    // a cell of another worker
-    CellTaken,
-    // an entry at the length or past it; an address there
+    // A cell would be another worker's too.
+    CellShared,
+    // The entry is not below the length.
     EntryPastLength,
+    // The address is not below the length.
     AddressPastLength,
-    // a word, an A, a Q or a P with more bits than it can have
+    // The word, A, Q or P has more bits than it can have.
     NumberTooWide,
-    // a budget above 1,000,000
+    // The budget is above 1,000,000.
     BudgetTooLarge,
-    // the worker is held; it is not
-    Held,
-    NotHeld,
-    // a buffer under 29 bytes
-    BufferTooShort,
-    // no cause has that number, or no store has that cell
+    // The worker is held, so it cannot run.
+    WorkerHeld,
+    // The worker is not held, so there is nothing to answer.
+    WorkerNotHeld,
+    // The buffer has fewer than 29 bytes.
+    ShortBuffer,
+    // No cause has that number, or no store has a cell at that address.
     NoFixedAddress,
-    // a register record of fewer than 29 bytes; one with another length than 27; one with another version than 1
-    RecordTooShort,
+    // The register record has fewer than 29 bytes.
+    ShortRecord,
+    // Its length is not 27.
     RecordLength,
+    // Its version is not 1.
     RecordVersion,
-    // a register record whose field at this offset is the first that is too wide for its register
+    // A field of it is too wide for its register: the first such field has this offset.
     FieldTooWide(u32),
-    // a spoiled half
+    // This half of the cell is spoiled.
     Spoiled(Half),
 }

@@ -10,12 +10,15 @@ ghost use Rattle.stores.specs.Parity.{half_of};
 ghost use Rattle.processor.specs.declared.outcome.Ending.TheVariants.{Spent, Interrupted};
 ghost use Rattle.processor.specs.declared.report.ReferenceKind.TheVariants.{Fetch, Write};
 ghost use Rattle.processor.specs.declared.report.Report.TheVariants.{IllegalInstruction, Protection, ExecutiveReturn};
-ghost use Rattle.processor.specs.Reports.{relative};
+ghost use Rattle.processor.specs.Reports.{relative, told_by};
 ghost use Rattle.engine.specs.declared.answer.Answer.TheVariants.{Admitted, Looked, Saved};
 ghost use Rattle.engine.specs.declared.answer.State.TheVariants.{Held, Ready};
 ghost use Rattle.engine.specs.declared.call.Call.TheVariants.{Ask};
-ghost use Rattle.engine.specs.declared.call.Request.TheVariants.{Run, Save, Tell};
-ghost use Rattle.figures.specs.Programs.{adding, admit, asked, called, illegal, jumping, look, ran, reference, refused_by, told};
+ghost use Rattle.engine.specs.declared.call.Request.TheVariants.{Restore, Run, Save, Tell};
+ghost use Rattle.engine.specs.Exchanges.{answers_in, exchanges};
+ghost use Rattle.engine.specs.Installation.{made};
+ghost use Rattle.store.specs.declared.half.Half.TheVariants.{Lower};
+ghost use Rattle.figures.specs.Programs.{adding, admit, asked, called, counting, half_spoiled, illegal, jumping, look, number, number_at, number_of_half, ran, record_with, reference, refusal_told, scaling, shifting, told};
 
 // Does nothing: its contract is all there is to it.
 pub fn worked_figures()
@@ -33,13 +36,22 @@ pub fn worked_figures()
     ensures spoiled_three { half_of 3 ≡ record { value = 3; good = false } }
     ensures good_zero { half_of 32768 ≡ record { value = 0; good = true } }
     ensures good_three { half_of 32771 ≡ record { value = 3; good = true } }
-    ensures adding { asked 8 adding (Run 10 ∷ Tell ∷ look 7 ∷ []) ≡ Admitted (Ok tt) ∷ ran 4 (Interrupted (ExecutiveReturn (relative 10))) ∷ told (Held (ExecutiveReturn (relative 10))) 8 4 ∷ Looked (Ok 8) ∷ [] }
-    ensures adding_in_7_words { asked 7 adding (Run 10 ∷ Tell ∷ []) ≡ Admitted (Ok tt) ∷ ran 3 (Interrupted (Protection (reference Write 7))) ∷ told (Held (Protection (reference Write 7))) 8 3 ∷ [] }
-    ensures two_steps { asked 8 adding (Run 2 ∷ Tell ∷ []) ≡ Admitted (Ok tt) ∷ ran 2 Spent ∷ told Ready 8 2 ∷ [] }
-    ensures two_steps_in_7_words { asked 7 adding (Run 2 ∷ Tell ∷ []) ≡ Admitted (Ok tt) ∷ ran 2 Spent ∷ told Ready 8 2 ∷ [] }
-    ensures jumping { asked 8 jumping (Run 10 ∷ Tell ∷ []) ≡ Admitted (Ok tt) ∷ ran 2 (Interrupted (Protection (reference Fetch 8))) ∷ told (Held (Protection (reference Fetch 8))) 0 8 ∷ [] }
-    ensures illegal { asked 8 illegal (Run 10 ∷ Tell ∷ []) ≡ Admitted (Ok tt) ∷ ran 1 (Interrupted (IllegalInstruction (relative 0))) ∷ told (Held (IllegalInstruction (relative 0))) 0 1 ∷ [] }
+    ensures scaling { asked 8 scaling (Run 2 ∷ Tell ∷ []) ≡ Admitted (Ok tt) ∷ ran 2 Spent ∷ told Ready 0o2000000000 28 2 ∷ [] }
+    ensures shifting { asked 8 shifting (Run 2 ∷ Tell ∷ []) ≡ Admitted (Ok tt) ∷ ran 2 Spent ∷ told Ready 0o7777777777 0 2 ∷ [] }
+    ensures counting { asked 8 counting (Run 2 ∷ Tell ∷ []) ≡ Admitted (Ok tt) ∷ ran 2 Spent ∷ told Ready 2 3 3 ∷ [] }
+    ensures adding { asked 8 adding (Run 10 ∷ Tell ∷ look 7 ∷ []) ≡ Admitted (Ok tt) ∷ ran 4 (Interrupted (ExecutiveReturn (relative 10))) ∷ told (Held (ExecutiveReturn (relative 10))) 8 0 4 ∷ Looked (Ok 8) ∷ [] }
+    ensures adding_in_7_words { asked 7 adding (Run 10 ∷ Tell ∷ []) ≡ Admitted (Ok tt) ∷ ran 3 (Interrupted (Protection (reference Write 7))) ∷ told (Held (Protection (reference Write 7))) 8 0 3 ∷ [] }
+    ensures two_steps { asked 8 adding (Run 2 ∷ Tell ∷ []) ≡ Admitted (Ok tt) ∷ ran 2 Spent ∷ told Ready 8 0 2 ∷ [] }
+    ensures two_steps_in_7_words { asked 7 adding (Run 2 ∷ Tell ∷ []) ≡ Admitted (Ok tt) ∷ ran 2 Spent ∷ told Ready 8 0 2 ∷ [] }
+    ensures jumping { asked 8 jumping (Run 10 ∷ Tell ∷ []) ≡ Admitted (Ok tt) ∷ ran 2 (Interrupted (Protection (reference Fetch 8))) ∷ told (Held (Protection (reference Fetch 8))) 0 0 8 ∷ [] }
+    ensures illegal { asked 8 illegal (Run 10 ∷ Tell ∷ []) ≡ Admitted (Ok tt) ∷ ran 1 (Interrupted (IllegalInstruction (relative 0))) ∷ told (Held (IllegalInstruction (relative 0))) 0 0 1 ∷ [] }
     ensures saved { called 6 (admit 0 0 6 5 ∷ Ask 0 (Save (replicate 29 255)) ∷ []) ≡ Admitted (Ok tt) ∷ Saved (Ok tt) (0x00 ∷ 0x1B ∷ 0x01 ∷ replicate 22 0 ++ 0x00 ∷ 0x00 ∷ 0x00 ∷ 0x05 ∷ []) ∷ [] }
-    ensures to_the_last_cell { map refused_by (called 64 (admit 0 60 5 0 ∷ admit 0 60 4 0 ∷ [])) ≡ Some 5 ∷ None ∷ [] }
-    ensures side_by_side { map refused_by (called 64 (admit 0 0 8 0 ∷ admit 1 7 1 0 ∷ admit 1 8 1 0 ∷ [])) ≡ None ∷ Some 6 ∷ None ∷ [] }
+    ensures to_the_last_cell { map refusal_told (called 64 (admit 0 60 5 0 ∷ admit 0 60 4 0 ∷ [])) ≡ number 5 ∷ None ∷ [] }
+    ensures side_by_side { map refusal_told (called 64 (admit 0 0 8 0 ∷ admit 1 7 1 0 ∷ admit 1 8 1 0 ∷ [])) ≡ None ∷ number 6 ∷ None ∷ [] }
+    ensures wide_field { map refusal_told (called 8 (admit 0 0 8 0 ∷ Ask 0 (Restore (record_with 17 128)) ∷ [])) ≡ None ∷ number_at 18 17 ∷ [] }
+    ensures spoiled_look { map refusal_told (answers_in (exchanges (made (half_spoiled ∷ [])) (admit 0 0 1 0 ∷ Ask 0 (look 0) ∷ []))) ≡ None ∷ number_of_half 19 Lower ∷ [] }
+    ensures executive_return_told { told_by (ExecutiveReturn (relative 10)) ≡ record { cause = 4; address = 10; kind = None; fault = None } }
+    ensures write_protection_told { told_by (Protection (reference Write 7)) ≡ record { cause = 2; address = 7; kind = Some Write; fault = None } }
+    ensures fetch_protection_told { told_by (Protection (reference Fetch 8)) ≡ record { cause = 2; address = 8; kind = Some Fetch; fault = None } }
+    ensures illegal_told { told_by (IllegalInstruction (relative 0)) ≡ record { cause = 1; address = 0; kind = None; fault = None } }
 {}

@@ -203,8 +203,8 @@ operation_fits (op.Replace c) m i fits = replaces m i fits c
 operation_fits op.CompareMasked m i fits = compares_masked m i fits
 operation_fits op.CompareAqEqual m i fits = compares_aq m i fits ◌==◌
 operation_fits op.CompareAqLess m i fits = compares_aq m i fits less
-operation_fits op.CompareMaskedEqual m i fits = compares_under_q m i fits equal_under
-operation_fits op.CompareMaskedLess m i fits = compares_under_q m i fits less_under
+operation_fits op.MaskedEqual m i fits = compares_under_q m i fits equal_under
+operation_fits op.MaskedLess m i fits = compares_under_q m i fits less_under
 operation_fits op.Jump m i fits = jumps m i fits
 operation_fits op.ReturnJump m i fits = jumps_to_return m i fits
 operation_fits op.SkipOnB m i fits = skips_on_b m i fits

@@ -41,9 +41,9 @@ compare_under_q test m i = do
   Ok (leaving m.registers (skip_if (test m.registers.q m.registers.a w)))
 
 -- 77/53: they are equal there
-abbrev pub compare_masked_equal : Machine → Fields → Result Effect Report
-compare_masked_equal = compare_under_q equal_under
+abbrev pub masked_equal : Machine → Fields → Result Effect Report
+masked_equal = compare_under_q equal_under
 
 -- 77/57: A is less there
-abbrev pub compare_masked_less : Machine → Fields → Result Effect Report
-compare_masked_less = compare_under_q less_under
+abbrev pub masked_less : Machine → Fields → Result Effect Report
+masked_less = compare_under_q less_under

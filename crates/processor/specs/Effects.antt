@@ -1,4 +1,4 @@
--- What an instruction comes to that is not interrupted: the registers but for P, what it puts, and where the program goes on. Nothing is put before all that is put has been tried.
+-- What comes of an instruction that does not interrupt: the registers, what it puts, and where the program goes on. All puts are tried before any is done.
 use Rattle.std.specs.Prelude.{ℕ, ◌+◌, Bool, if◌then◌else◌, List, [], ◌∷◌, Result, Ok}
 use Rattle.words.specs.Words.{lower_half}
 use Rattle.store.specs.Cells.{Cell}
@@ -24,6 +24,7 @@ pub data Next : Type 0 where
   skipping : Next
   jumping : ℕ → Next
 
+-- the registers' own P counts for nothing: `next` decides
 pub record Effect : Type 0 where
   pub registers : Registers
   pub puts : List Put
@@ -38,7 +39,7 @@ next_p (jumping target) p = target
 abbrev pub skip_if : Bool → Next
 skip_if test = if test then skipping else onward
 
--- the registers are as given, nothing is put, and the program goes on there
+-- these registers, nothing put
 abbrev pub leaving : Registers → Next → Effect
 leaving r next = record { registers = r; puts = []; next = next }
 
@@ -62,7 +63,7 @@ abbrev pub puts_done : List Cell → List Put → List Cell
 puts_done words [] = words
 puts_done words (p ∷ ps) = puts_done (put_done words p) ps
 
--- what an instruction stores at an address by k, of a word and, for k of 5 to 7, another one in its place: in the lower half, in the upper half, or whole
+-- what an instruction stores at an address by k: 1, 2 and 3 put a word, by its lower half in the lower half or in the upper half, or whole; 5, 6 and 7 put another word so
 abbrev pub stored : ℕ → ℕ → (word other : ℕ) → List Put
 stored k r word other = by_digit k
     []

@@ -18,6 +18,6 @@ executive_return m i = Err (ExecutiveReturn (relative (effective m i)))
 
 -- 77/52: if bit 14 of the word at ȳ is set, interrupts and tells ȳ; otherwise the lower half of the word becomes all ones
 abbrev pub test_and_set : Machine → Fields → Result Effect Report
-test_and_set m i = let y = effective m i in do
-  w ← read m y
-  if bit_at w 14 == 1 then Err (TestAndSet (relative y)) else Ok (record { registers = m.registers; puts = half y Lower 0o77777 ∷ []; next = onward })
+test_and_set m i = let at = effective m i in do
+  w ← read m at
+  if bit_at w 14 == 1 then Err (TestAndSet (relative at)) else Ok (record { registers = m.registers; puts = half at Lower 0o77777 ∷ []; next = onward })

@@ -31,14 +31,14 @@ return_jump m i = do
   t ← target m i
   Ok (if skip_met i.j m.registers then returning m.registers t else leaving m.registers onward)
 
--- 71: where Bj is equal to the lowest 15 bits of Y it becomes 0 and the program skips; otherwise it grows by 1 modulo 32,768
+-- 71: Bj counts up, modulo 32,768, until it is the lowest 15 bits of Y; then it starts again from 0, and the program skips
 abbrev pub skip_on_b : Machine → Fields → Result Effect Report
 skip_on_b m i = do
   t ← target m i
   let b = index m.registers i.j in
       Ok (if b == t then leaving (with_index m.registers i.j 0) skipping else leaving (with_index m.registers i.j ((b + 1) % 2 ^ 15)) onward)
 
--- 72: where Bj is not 0 it falls by 1 and the program jumps
+-- 72: Bj counts down, and the program jumps, until it is 0
 abbrev pub jump_on_b : Machine → Fields → Result Effect Report
 jump_on_b m i = do
   t ← target m i

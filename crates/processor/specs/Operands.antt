@@ -9,11 +9,11 @@ use Rattle.processor.specs.Machine.{Machine, index}
 use Rattle.processor.specs.References.{read}
 use Rattle.processor.specs.Then.{◌>>=◌}
 
--- y and Bb, modulo 32,768
+-- ȳ: y and Bb, modulo 32,768
 abbrev pub effective : Machine → Fields → ℕ
 effective m i = (i.y + index m.registers i.b) % 2 ^ 15
 
--- the word that is n words further on, modulo 32,768
+-- the address n words further on, modulo 32,768
 abbrev pub further : Machine → Fields → ℕ → ℕ
 further m i n = (effective m i + n) % 2 ^ 15
 
@@ -35,12 +35,12 @@ extension half = do
 
 -- Y by k: ȳ itself; the lower half, the upper half of the word at ȳ; that word; the first three again with bit 14 copied upwards; A
 abbrev pub operand : Machine → Fields → Result ℕ Report
-operand m i = let y = effective m i in by_digit i.k
-    (Ok y)
-    (lower_read m y)
-    (upper_read m y)
-    (read m y)
-    (Ok (extended 15 y))
-    (extension (lower_read m y))
-    (extension (upper_read m y))
+operand m i = let at = effective m i in by_digit i.k
+    (Ok at)
+    (lower_read m at)
+    (upper_read m at)
+    (read m at)
+    (Ok (extended 15 at))
+    (extension (lower_read m at))
+    (extension (upper_read m at))
     (Ok m.registers.a)

@@ -75,26 +75,27 @@ instructions_77 =
     (0o31 is op.PackLower) ∷
     (0o51 is op.ShiftRightLogical Q) ∷
     (0o52 is op.TestAndSet) ∷
-    (0o53 is op.CompareMaskedEqual) ∷
+    (0o53 is op.MaskedEqual) ∷
     (0o54 is op.ExecutiveReturn) ∷
     (0o55 is op.ShiftRightLogical A) ∷
     (0o56 is op.ShiftRightLogical Aq) ∷
-    (0o57 is op.CompareMaskedLess) ∷
+    (0o57 is op.MaskedLess) ∷
     []
 
 abbrev pub coded : Fields → Option Operation
 coded i = if i.f == 0o77 then with_code (g i) instructions_77 else with_code i.f instructions
 
--- the k that an operation allows: a replace form none of 0, 4 and 7, and four others no 7
-abbrev pub computes_with : Computation → ℕ → Bool
-computes_with computation.SelectiveSet k = not (k == 7)
-computes_with computation.SelectiveClear k = not (k == 7)
-computes_with computation.SelectiveSubstitute k = not (k == 7)
-computes_with c k = true
+-- three computations do not allow a k of 7
+abbrev pub allows_computing : Computation → ℕ → Bool
+allows_computing computation.SelectiveSet k = not (k == 7)
+allows_computing computation.SelectiveClear k = not (k == 7)
+allows_computing computation.SelectiveSubstitute k = not (k == 7)
+allows_computing c k = true
 
+-- does an operation allow a k? A replace form none of 0, 4 and 7, and the product of A and Q no 7 either
 abbrev pub allows : Operation → ℕ → Bool
 allows (op.Replace c) k = not (k == 0 || k == 4 || k == 7)
-allows (op.Compute c) k = computes_with c k
+allows (op.Compute c) k = allows_computing c k
 allows op.StoreProduct k = not (k == 7)
 allows operation k = true
 

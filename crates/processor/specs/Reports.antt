@@ -51,12 +51,23 @@ fault_of (Parity reference fault) = Some fault
 fault_of (ExecutiveReturn r) = None
 fault_of (TestAndSet r) = None
 
--- P after an interrupt: it stays where the fetch failed, and after every parity fault; after any other it is P + 1
+-- all that a report tells
+pub record Told : Type 0 where
+  pub cause : ℕ
+  pub address : ℕ
+  pub kind : Option ReferenceKind
+  pub fault : Option Fault
+
+abbrev pub told_by : Report → Told
+told_by report = record { cause = cause_number (cause_of report); address = address_of report; kind = kind_of report; fault = fault_of report }
+
+-- P after a protection interrupt: it stays where the fetch failed
 abbrev pub p_after_protection : ReferenceKind → ℕ → ℕ
 p_after_protection Fetch p = p
 p_after_protection Read p = p + 1
 p_after_protection Write p = p + 1
 
+-- P after an interrupt: it stays after every parity fault too, and after any other interrupt it is P + 1
 abbrev pub p_after : Report → ℕ → ℕ
 p_after (IllegalInstruction r) p = p + 1
 p_after (Protection reference) p = p_after_protection reference.kind p

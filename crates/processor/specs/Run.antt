@@ -1,16 +1,23 @@
 -- A run: steps until the budget is spent or one interrupts.
-use Rattle.std.specs.Prelude.{ℕ, zero, suc}
+use Rattle.std.specs.Prelude.{ℕ, zero, suc, Option, Some, None}
+use Rattle.processor.specs.declared.outcome.Ending.{Ending}
 use Rattle.processor.specs.declared.outcome.Ending.TheVariants.{Spent, Interrupted}
 use Rattle.processor.specs.declared.outcome.Ran.{Ran}
+use Rattle.processor.specs.declared.report.Report.{Report}
 use Rattle.processor.specs.Machine.{Machine}
 use Rattle.processor.specs.Step.{Stepped, completed, interrupted, step}
+
+-- the report of the interrupt that ended a run, if one did
+abbrev pub report_of : Ending → Option Report
+report_of Spent = None
+report_of (Interrupted report) = Some report
 
 -- what is told of the run, and the machine after it
 pub record Outcome : Type 0 where
   pub told : Ran
   pub machine : Machine
 
--- with one step more, before the others
+-- one step more, before those of the outcome
 abbrev pub one_more : Outcome → Outcome
 one_more o = record { told = record { steps = suc o.told.steps; ending = o.told.ending }; machine = o.machine }
 

@@ -16,7 +16,7 @@ use Rattle.processor.specs.Reports.{relative}
 use Rattle.processor.specs.Skips.{skip_met}
 use Rattle.processor.specs.Then.{◌>>=◌}
 
--- the count is the lowest six bits of a number; 60 to 63 are illegal
+-- a count has six bits, the lowest of a number, and one of 60 or more is illegal
 abbrev pub count_of : Machine → ℕ → Result ℕ Report
 count_of m y = if nat_lt (y % 64) 60 then Ok (y % 64) else Err (IllegalInstruction (relative m.registers.p))
 

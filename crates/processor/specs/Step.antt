@@ -40,8 +40,8 @@ effect_of (op.Replace c) = replace c
 effect_of op.CompareMasked = comparisons.compare_masked
 effect_of op.CompareAqEqual = comparisons.compare_aq_equal
 effect_of op.CompareAqLess = comparisons.compare_aq_less
-effect_of op.CompareMaskedEqual = comparisons.compare_masked_equal
-effect_of op.CompareMaskedLess = comparisons.compare_masked_less
+effect_of op.MaskedEqual = comparisons.masked_equal
+effect_of op.MaskedLess = comparisons.masked_less
 effect_of op.Jump = jumps.jump
 effect_of op.ReturnJump = jumps.return_jump
 effect_of op.SkipOnB = jumps.skip_on_b
@@ -57,7 +57,7 @@ effect_if None m i = Err (IllegalInstruction (relative m.registers.p))
 unfoldable pub instruction_effect : Machine → Fields → Result Effect Report
 instruction_effect m i = effect_if (operation_of i) m i
 
--- the fetch at P; illegal codes; what the instruction reads and how it is done; and the tries of what it puts. The first that fails interrupts
+-- in order: the fetch at P; illegal codes; what the instruction reads and tests; the tries of what it puts. The first that fails interrupts
 unfoldable pub tried : Machine → Result Effect Report
 tried m = do
   w ← fetch m m.registers.p

@@ -1,4 +1,4 @@
--- One step after another, where each may find why it goes no further.
+-- What follows on a result: the first failure ends it.
 use Rattle.std.specs.Prelude.{Ok, Err, Result}
 
 infixl 10 ◌>>=◌

@@ -31,12 +31,13 @@ enter_a m i = do
   y ← operand m i
   Ok (with_skip i (record m.registers { a = y }) [])
 
--- 12: the lowest 15 bits of Y to Bj; with j = 0 it does nothing and refers to nothing
+-- the lowest 15 bits of Y to Bj
 abbrev pub enter_named_b : Machine → Fields → Result Effect Report
 enter_named_b m i = do
   y ← operand m i
   Ok (leaving (with_index m.registers i.j (y % 2 ^ 15)) onward)
 
+-- 12: that; but with j = 0 it does nothing and refers to nothing
 abbrev pub enter_b : Machine → Fields → Result Effect Report
 enter_b m i = if i.j == 0 then Ok (leaving m.registers onward) else enter_named_b m i
 

@@ -8,7 +8,7 @@ pub enum Shifted {
     Aq,
 }
 
-// What becomes of A by A, Q and the operand Y.
+// The new A, of the old A, Q and the operand Y.
 #[derive(Clone, Copy, Debug, PartialEq, Eq)]
 pub enum Computation {
     // A + Y and A − Y
@@ -51,8 +51,8 @@ pub enum Operation {
     CompareMasked,
     CompareAqEqual,
     CompareAqLess,
-    CompareMaskedEqual,
-    CompareMaskedLess,
+    MaskedEqual,
+    MaskedLess,
     Jump,
     ReturnJump,
     SkipOnB,

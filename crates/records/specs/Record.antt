@@ -42,9 +42,12 @@ two_at bytes at = from_be_bytes w16 (slice_range bytes at (at + 2))
 abbrev pub four_at : List ℕ → ℕ → ℕ
 four_at bytes at = from_be_bytes w32 (slice_range bytes at (at + 4))
 
--- where A and Q, B1 to B7, and P stand in it
-abbrev pub a_and_q : List ℕ
-a_and_q = 3 ∷ 7 ∷ []
+-- where A, Q, B1 to B7 and P stand in it
+abbrev pub a_field : ℕ
+a_field = 3
+
+abbrev pub q_field : ℕ
+q_field = 7
 
 abbrev pub b_fields : List ℕ
 b_fields = 11 ∷ 13 ∷ 15 ∷ 17 ∷ 19 ∷ 21 ∷ 23 ∷ []
@@ -55,8 +58,8 @@ p_field = 25
 -- the registers that a record's bytes tell
 unfoldable pub registers_in : List ℕ → Registers
 registers_in bytes = record {
-  a = four_at bytes 3;
-  q = four_at bytes 7;
+  a = four_at bytes a_field;
+  q = four_at bytes q_field;
   b = map (two_at bytes) b_fields;
   p = four_at bytes p_field;
 }
@@ -69,7 +72,7 @@ first_wide bits number (at ∷ rest) = if nat_lt (number at) (2 ^ bits) then fir
 -- the offset of the first field that its register has no room for
 unfoldable pub too_wide : List ℕ → Option ℕ
 too_wide bytes =
-    option_or (first_wide 30 (four_at bytes) a_and_q)
+    option_or (first_wide 30 (four_at bytes) (a_field ∷ q_field ∷ []))
     (option_or (first_wide 15 (two_at bytes) b_fields)
     (first_wide 17 (four_at bytes) (p_field ∷ [])))
 

@@ -1,5 +1,5 @@
 // The register record.
-ghost use Rattle.std.specs.Prelude.{◌≡◌, ℕ, ◌^◌, ◌<◌, ◌≤◌, ◌+◌, length, nat_lt, take, is_ok, if◌then◌else◌, IfOk, OnOk};
+ghost use Rattle.std.specs.Prelude.{◌≡◌, ◌^◌, ◌<◌, ◌≤◌, ◌+◌, length, nat_lt, take, is_ok, if◌then◌else◌, IfOk, OnOk};
 ghost use Rattle.records.specs.Record.{record_of, record_read, two_at, four_at, write_answer, written};
 ghost use Rattle.records.specs.Registers.{Fits};
 
@@ -76,6 +76,7 @@ impl Registers {
     pub fn write(&self, buffer: &mut [u8]) -> Result<(), BufferTooShort>
         ensures answer { result ≡ write_answer buffer.old }
         ensures buffer { buffer.new ≡ (if is_ok result then written self.now buffer.old else buffer.old) }
+        ensures front { OnOk result (take 29 buffer.new ≡ record_of self.now) }
         ensures reads_again { OnOk result (record_read buffer.new ≡ Ok self.now) }
     {
         if buffer.len() < SIZE {
@@ -85,7 +86,7 @@ impl Registers {
         Ok(())
     }
 
-    // The registers that the record tells at the start of these bytes.
+    // What `read` does, apart from it for the proof of its law.
     #[tactic(auto, unfolding(crate::specs::Record::record_read, crate::specs::Record::registers_in, crate::specs::Record::too_wide))]
     fn in_record(bytes: &[u8]) -> Result<Registers, RecordFault>
         ensures { result ≡ record_read bytes.now }

@@ -103,3 +103,27 @@ fn other_lengths_and_versions_are_refused(rt: HostRuntime) -> Result<(), Fail> {
     );
     Ok(())
 }
+
+// A = 1234567012, Q = 7777777777, B1 = 12345, B7 = 77777 (octal), P = 131,071, as docs/FORMATS.md has it.
+const OTHER: [u8; 29] = [
+    0x00, 0x1b, 0x01, 0x0a, 0x72, 0xee, 0x0a, 0x3f, 0xff, 0xff, 0xff, 0x14, 0xe5, 0x00, 0x00, 0x00,
+    0x00, 0x00, 0x00, 0x00, 0x00, 0x00, 0x00, 0x7f, 0xff, 0x00, 0x01, 0xff, 0xff,
+];
+
+#[test]
+fn the_other_record_is_read(rt: HostRuntime) -> Result<(), Fail> {
+    let Ok(registers) = Registers::read(&OTHER) else {
+        panic!(rt; "the record was refused");
+    };
+    let mut buffer = [0; 29];
+    assert_eq!(rt; registers.write(&mut buffer), Ok(()));
+    assert_eq!(rt; buffer, OTHER);
+    let mut bytes = OTHER;
+    bytes[3] = 0x4a;
+    assert_eq!(rt; Registers::read(&bytes), Err(RecordFault::TooWide(3)));
+    bytes = OTHER;
+    bytes[23] = 0xff;
+    bytes[26] = 0x02;
+    assert_eq!(rt; Registers::read(&bytes), Err(RecordFault::TooWide(23)));
+    Ok(())
+}

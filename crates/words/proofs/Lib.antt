@@ -1,4 +1,5 @@
 pub mod BitByBit
+mod Counted
 mod Extended
 mod OctalDigits
 mod Ordered

@@ -1,5 +1,5 @@
 -- What logic does to the bits of words.
-use Rattle.std.specs.Prelude.{ℕ, ◌-◌, ◌%◌, ◌==◌, nat_lt, Bool, count_ones, if◌then◌else◌}
+use Rattle.std.specs.Prelude.{ℕ, zero, suc, ◌+◌, ◌-◌, ◌/◌, ◌%◌, ◌==◌, nat_lt, Bool, if◌then◌else◌}
 use Rattle.std.specs.Int.{bit_at}
 use Rattle.words.specs.Bits.{of_bits}
 
@@ -25,9 +25,14 @@ selective_clear a y = where_ones y (λ _. 0) (bit_at a)
 unfoldable pub selective_substitute : ℕ → ℕ → ℕ → ℕ
 selective_substitute a mask y = where_ones mask (bit_at y) (bit_at a)
 
--- an odd number of bits are 1
+-- how many of the lowest n bits are 1
+unfoldable pub ones_among : ℕ → ℕ → ℕ
+ones_among zero w = 0
+ones_among (suc n) w = w % 2 + ones_among n (w / 2)
+
+-- an odd number of a word's bits are
 unfoldable pub has_odd_ones : ℕ → Bool
-has_odd_ones w = count_ones w % 2 == 1
+has_odd_ones w = ones_among 30 w % 2 == 1
 
 -- of two words only the bits where the mask has ones
 unfoldable pub equal_under : ℕ → ℕ → ℕ → Bool

@@ -47,7 +47,7 @@ impl Word {
     }
 
     // Is the number of ones odd?
-    #[tactic(auto, unfolding(crate::specs::Logic::has_odd_ones))]
+    #[tactic(auto, using(crate::proofs::Counted::all_ones), unfolding(crate::specs::Logic::has_odd_ones))]
     pub fn has_odd_ones(self) -> bool
         ensures { result ≡ has_odd_ones self }
     {

@@ -2,7 +2,8 @@ use Rattle.std.proofs.Common.{refl}
 use Rattle.std.specs.Int.Count.{ones}
 use Rattle.words.specs.Bits.{of_bits}
 use Rattle.words.specs.Extension.{extended}
-use Rattle.records.specs.Record.{record_of}
+use Rattle.records.specs.Record.{record_of, record_read, registers_in, too_wide}
+use Rattle.words.specs.Logic.{product, has_odd_ones, ones_among}
 use Rattle.processor.specs.Computations.{computed}
 use Rattle.processor.specs.Repertoire.{operation_of}
 use Rattle.processor.specs.Run.{run}
@@ -91,3 +92,23 @@ returns-clause-to_the_last_cell c = refl
 pub returns-clause-side_by_side : goal.returns-clause-side_by_side
 unfolding exchanges performed
 returns-clause-side_by_side c = refl
+
+pub returns-clause-scaling : goal.returns-clause-scaling
+unfolding exchanges performed served run step tried instruction_effect operation_of skip_met product_skip_met computed sum difference extended of_bits scale_factor turns_within turned_left
+returns-clause-scaling c = refl
+
+pub returns-clause-shifting : goal.returns-clause-shifting
+unfolding exchanges performed served run step tried instruction_effect operation_of skip_met product_skip_met computed sum difference extended of_bits shifted_right_with_sign
+returns-clause-shifting c = refl
+
+pub returns-clause-counting : goal.returns-clause-counting
+unfolding exchanges performed served run step tried instruction_effect operation_of skip_met product_skip_met computed sum difference extended of_bits product has_odd_ones ones_among
+returns-clause-counting c = refl
+
+pub returns-clause-wide_field : goal.returns-clause-wide_field
+unfolding exchanges performed served record_of record_read registers_in too_wide
+returns-clause-wide_field c = refl
+
+pub returns-clause-spoiled_look : goal.returns-clause-spoiled_look
+unfolding exchanges performed served
+returns-clause-spoiled_look c = refl
