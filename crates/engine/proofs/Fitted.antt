@@ -1,5 +1,5 @@
 -- The registers of every worker fit, after any history from the making.
-use Rattle.std.proofs.Common.{ℕ, ◌≡◌, ◌≤◌, ◌<◌, ◌+◌, ◌^◌, not, ◌&&◌, List, length, nat_le, nat_lt, Some, Result, Ok, Err, refl, sym, ap, ◌∙◌, subst, arith}
+use Rattle.std.proofs.Common.{ℕ, ◌≡◌, ◌≤◌, ◌<◌, ◌^◌, ◌&&◌, List, nat_lt, Some, Result, Ok, Err, refl, sym, ap, ◌∙◌, subst, arith}
 use Rattle.store.specs.declared.address.CellAddress.{CellAddress}
 use Rattle.records.specs.Record.{record_read}
 use Rattle.records.specs.Registers.{Registers, Fits, starting_at}
@@ -16,10 +16,9 @@ use Rattle.engine.specs.declared.call.Request.TheVariants as request
 use Rattle.engine.specs.declared.call.Terms.{Terms}
 use Rattle.engine.specs.declared.place.Place.{Place}
 use Rattle.engine.specs.declared.place.Place.TheVariants as place
-use Rattle.engine.specs.declared.place.Span.{Span}
 use Rattle.engine.specs.declared.place.Worker.{Worker}
 use Rattle.engine.specs.declared.refusal.Refusal.TheVariants as refusal
-use Rattle.engine.specs.Admission.{Done, admit, retire, is_free, overlaps_any}
+use Rattle.engine.specs.Admission.{Done, admit, retire}
 use Rattle.engine.specs.FixedAddress.{fixed_address}
 use Rattle.engine.specs.Installation.{Installation, Holder, holder, made, place_at, place_by, worker_of}
 use Rattle.engine.specs.Laws.{RegistersFit}
@@ -27,6 +26,7 @@ use Rattle.engine.specs.Own.{Own, is_held}
 use Rattle.engine.specs.Performing.{ask, taken}
 use Rattle.engine.specs.Refusals.{by_record}
 use Rattle.engine.specs.Serving.{Served, served, run_ready, machine_of, answered}
+use Rattle.engine.proofs.Admitting.{new_worker, of_admit}
 use Rattle.engine.proofs.Histories.{after_keeps, its_place, its_lies}
 use Rattle.engine.proofs.Places.{set_all, free_at, some_is, none_is}
 use Rattle.engine.proofs.Results.{OkIs, then_ok, ok_is, required_then}
@@ -103,17 +103,9 @@ module _ (i : Installation) (sound : Sound i) (all : AllFit i) where
   retire_fitted p = then_ok Fitted (holder i p) _ (λ h held. set_all PlaceFits i.places p place.Free all (λ w at. absurd (none_is w at)))
 
   admit_fitted : (p : ℕ) (lower : CellAddress) (terms : Terms) → OkIs Fitted (admit i p lower terms)
-  admit_fitted p lower terms =
-      let span : Span = record { lower = lower; length = terms.length } in
-      let new : Worker = record { span = span; registers = starting_at terms.entry.0 } in
-      required_then Fitted (nat_le p 7) refusal.NoSuchPlace _ (λ exists.
-      required_then Fitted (is_free (place_at i.places p)) refusal.PlaceOccupied _ (λ free.
-      required_then Fitted (nat_le 1 terms.length && nat_le terms.length 32768) refusal.BadLength _ (λ good.
-      required_then Fitted (nat_le (lower.0 + terms.length) (length i.row)) refusal.PastStore _ (λ inside.
-      required_then Fitted (not (overlaps_any span i.places)) refusal.CellShared _ (λ apart.
-      required_then Fitted (nat_lt terms.entry.0 terms.length) refusal.EntryPastLength _ (λ below.
-      let fits : Fits (starting_at terms.entry.0) = new_fits terms.entry.0 (grind (arith, below, good)) in
-      set_all PlaceFits i.places p (place.Ready new) all (λ w at. subst (λ w. Fits w.registers) (some_is new w at) fits)))))))
+  admit_fitted p lower terms = of_admit i p lower terms Fitted (λ passes.
+      let fits : Fits (starting_at terms.entry.0) = new_fits terms.entry.0 (omega (arith, passes.below, passes.lies.few)) in
+      set_all PlaceFits i.places p _ all (λ w at. subst (λ w. Fits w.registers) (some_is (new_worker lower terms) w at) fits))
 
   taken_fitted : (c : Call (List ℕ)) → OkIs Fitted (taken i c)
   taken_fitted (call.Admit p lower terms) = admit_fitted p lower terms

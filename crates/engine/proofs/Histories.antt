@@ -1,21 +1,20 @@
 -- Every call, and so every history from the making, leaves a sound installation.
-use Rattle.std.proofs.Common.{ℕ, ◌≡◌, ◌+◌, not, ◌&&◌, List, [], ◌∷◌, length, nat_le, nat_lt, Result, Ok, Err, arith, ◌∙◌, ap}
+use Rattle.std.proofs.Common.{ℕ, ◌≡◌, List, [], ◌∷◌, length, Result, Ok, Err, ◌∙◌, ap}
 use Rattle.engine.specs.declared.call.Call.{Call}
 use Rattle.engine.specs.declared.call.Call.TheVariants as call
 use Rattle.engine.specs.declared.call.Request.{Request}
 use Rattle.engine.specs.declared.call.Terms.{Terms}
-use Rattle.engine.specs.declared.place.Span.{Span}
 use Rattle.engine.specs.declared.refusal.Refusal.{Refusal}
-use Rattle.engine.specs.declared.refusal.Refusal.TheVariants as refusal
 use Rattle.store.specs.declared.address.CellAddress.{CellAddress}
-use Rattle.engine.specs.Admission.{Done, admit, retire, span_of, is_free, overlaps_any}
+use Rattle.engine.specs.Admission.{Done, admit, retire, span_of}
 use Rattle.engine.specs.FixedAddress.{fixed_address}
 use Rattle.engine.specs.Exchanges.{after}
 use Rattle.engine.specs.Installation.{Installation, Holder, holder, place_at}
 use Rattle.engine.specs.Performing.{ask, taken, refused, taken_or_refused, performed}
 use Rattle.engine.specs.Serving.{Served, served}
+use Rattle.engine.proofs.Admitting.{new_worker, of_admit}
 use Rattle.engine.proofs.Places.{Holds, holder_span, holder_holds}
-use Rattle.engine.proofs.Results.{OkIs, then_ok, ok_is, required_then}
+use Rattle.engine.proofs.Results.{OkIs, then_ok, ok_is}
 use Rattle.engine.proofs.Rows.{words_number}
 use Rattle.engine.proofs.Served.{served_kept}
 use Rattle.engine.proofs.Sound.{Sound, Lies, asked_sound, retired_sound, admitted_sound}
@@ -48,15 +47,7 @@ Leaves t = Sound t.installation
 
 module _ (i : Installation) (sound : Sound i) where
   admit_sound : (p : ℕ) (lower : CellAddress) (terms : Terms) → OkIs Leaves (admit i p lower terms)
-  admit_sound p lower terms =
-      let span : Span = record { lower = lower; length = terms.length } in
-      required_then Leaves (nat_le p 7) refusal.NoSuchPlace _ (λ exists.
-      required_then Leaves (is_free (place_at i.places p)) refusal.PlaceOccupied _ (λ free.
-      required_then Leaves (nat_le 1 terms.length && nat_le terms.length 32768) refusal.BadLength _ (λ good.
-      required_then Leaves (nat_le (lower.0 + terms.length) (length i.row)) refusal.PastStore _ (λ inside.
-      required_then Leaves (not (overlaps_any span i.places)) refusal.CellShared _ (λ apart.
-      required_then Leaves (nat_lt terms.entry.0 terms.length) refusal.EntryPastLength _ (λ below.
-      admitted_sound i p _ sound (grind (arith, exists)) (record { some = grind (arith, good); few = grind (arith, good); inside = grind (arith, inside) }) (grind (arith, apart))))))))
+  admit_sound p lower terms = of_admit i p lower terms Leaves (λ passes. admitted_sound i p (new_worker lower terms) sound passes.exists passes.lies passes.apart)
 
   retire_sound : (p : ℕ) → OkIs Leaves (retire i p)
   retire_sound p = then_ok Leaves (holder i p) _ (λ h held. retired_sound i p sound (holder_span i p h held).0)

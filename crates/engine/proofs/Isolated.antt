@@ -1,5 +1,5 @@
 -- Isolation: two workers that are admitted on the same terms and find equal words live alike, since each lives as it would alone.
-use Rattle.std.proofs.Common.{ℕ, ◌≡◌, ◌+◌, true, not, ◌&&◌, List, length, take, nat_le, nat_lt, slice_set, Ok, sym, ap, ◌∙◌, arith}
+use Rattle.std.proofs.Common.{ℕ, ◌≡◌, true, List, take, Ok, sym, ap, ◌∙◌, arith}
 use Rattle.store.specs.Cells.{Cell}
 use Rattle.store.specs.declared.address.CellAddress.{CellAddress}
 use Rattle.records.specs.Registers.{starting_at}
@@ -7,20 +7,18 @@ use Rattle.engine.specs.declared.answer.Answer.TheVariants as answer
 use Rattle.engine.specs.declared.answer.State.TheVariants as state
 use Rattle.engine.specs.declared.call.Call.TheVariants as call
 use Rattle.engine.specs.declared.call.Terms.{Terms}
-use Rattle.engine.specs.declared.place.Place.TheVariants.{Ready}
-use Rattle.engine.specs.declared.place.Span.{Span}
-use Rattle.engine.specs.declared.refusal.Refusal.TheVariants as refusal
-use Rattle.engine.specs.Admission.{Done, admit, is_free, overlaps_any}
+use Rattle.engine.specs.Admission.{Done, admit}
 use Rattle.engine.specs.Exchanges.{ends_by_retire}
-use Rattle.engine.specs.Installation.{Installation, Holder, holder, if_occupied, made, place_at, words_in}
+use Rattle.engine.specs.Installation.{Installation, Holder, holder, if_occupied, made, words_in}
 use Rattle.engine.specs.Isolation.{WithAdmit, Isolation, Admits, before_admit, just_after, calls_for, answers_to, at_last, words_of, would_tell}
 use Rattle.engine.specs.Own.{Own}
 use Rattle.engine.specs.Performing.{performed}
+use Rattle.engine.proofs.Admitting.{admitted, of_admit}
 use Rattle.engine.proofs.Alone.{alone, alone_first, Seen, seen_after}
 use Rattle.engine.proofs.Histories.{of_call, performed_sound, after_sound}
 use Rattle.engine.proofs.Lives.{answered_alone, seen_alone}
 use Rattle.engine.proofs.Places.{holder_is, set_here}
-use Rattle.engine.proofs.Results.{OkIs, required_then}
+use Rattle.engine.proofs.Results.{OkIs}
 use Rattle.engine.proofs.Sound.{Sound, made_sound}
 
 -- a new worker as it sees itself
@@ -36,17 +34,9 @@ module _ (i : Installation) (sound : Sound i) (p : ℕ) (lower : CellAddress) (t
   Found t = t.answer ≡ answer.Admitted (Ok tt) → holder t.installation p ≡ Ok (new_holder lower terms (words_in i.row lower.0 terms.length))
 
   admit_found : OkIs Found (admit i p lower terms)
-  admit_found =
-      let span : Span = record { lower = lower; length = terms.length } in
-      let places = slice_set i.places p (Ready (record { span = span; registers = starting_at terms.entry.0 })) in
-      required_then Found (nat_le p 7) refusal.NoSuchPlace _ (λ exists.
-      required_then Found (is_free (place_at i.places p)) refusal.PlaceOccupied _ (λ free.
-      required_then Found (nat_le 1 terms.length && nat_le terms.length 32768) refusal.BadLength _ (λ good.
-      required_then Found (nat_le (lower.0 + terms.length) (length i.row)) refusal.PastStore _ (λ inside.
-      required_then Found (not (overlaps_any span i.places)) refusal.CellShared _ (λ apart.
-      required_then Found (nat_lt terms.entry.0 terms.length) refusal.EntryPastLength _ (λ below _.
-      holder_is (record i { places = places }) p (grind (arith, exists))
-      ∙ ap (if_occupied i.row) (set_here i.places p _ (grind (arith, exists, sound.eight)))))))))
+  admit_found = of_admit i p lower terms Found (λ passes _.
+      holder_is (admitted i p lower terms).installation p passes.exists
+      ∙ ap (if_occupied i.row) (set_here i.places p _ (omega (arith, passes.exists, sound.eight))))
 
   found : Found (performed i (call.Admit p lower terms))
   found = of_call Found i (call.Admit p lower terms) (λ e taken. absurd cc) admit_found

@@ -15,6 +15,7 @@ use Rattle.engine.specs.Installation.{Installation, holder, made}
 use Rattle.engine.specs.Refusals.{refusal_of}
 use Rattle.engine.specs.Laws.{RefusedLeaveAll, NoCellIsShared, RowKeepsLength, WorkersLieInRow}
 use Rattle.engine.specs.Performing.{ask, taken, refused, request_refused, performed}
+use Rattle.engine.proofs.Admitting.{of_admit}
 use Rattle.engine.proofs.Histories.{of_call, performed_sound, after_sound, its_lies, as_many}
 use Rattle.engine.proofs.Places.{span_in, some_is}
 use Rattle.engine.proofs.Results.{OkIs, then_ok, ok_is}
@@ -47,7 +48,7 @@ module _ (i : Installation) (sound : Sound i) where
       row_number i.row h.span.lower.0 h.span.length (its_lies i sound p h held).inside s.own.words (as_many i sound p h held what s gave)))
 
   taken_as_long : (c : Call (List ℕ)) → OkIs (AsLong i) (taken i c)
-  taken_as_long (call.Admit p lower terms) = search (then_ok) depth 8
+  taken_as_long (call.Admit p lower terms) = of_admit i p lower terms (AsLong i) (λ passes. refl)
   taken_as_long (call.Ask p what) = ask_as_long p what
   taken_as_long (call.Retire p) = search (then_ok)
   taken_as_long (call.Span p) = search (then_ok)
@@ -85,7 +86,7 @@ abbrev pub Untold : Done → Type 0
 Untold t = refusal_of t.answer ≡ None
 
 pub taken_untold : (i : Installation) (c : Call (List ℕ)) → OkIs Untold (taken i c)
-taken_untold i (call.Admit p lower terms) = search (then_ok) depth 8
+taken_untold i (call.Admit p lower terms) = of_admit i p lower terms Untold (λ passes. refl)
 taken_untold i (call.Ask p what) = then_ok Untold (holder i p) _ (λ h held. then_ok Untold (served h.span.length h.own what) _ (λ s gave. ok_is _ (served h.span.length h.own what) s gave (served_untold h.span.length h.own what)))
 taken_untold i (call.Retire p) = search (then_ok)
 taken_untold i (call.Span p) = search (then_ok)

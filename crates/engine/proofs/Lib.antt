@@ -1,15 +1,16 @@
-pub mod Results
-pub mod Rows
-pub mod Places
-pub mod Served
-pub mod Sound
-pub mod Histories
-pub mod Others
-pub mod Alone
-pub mod Lives
-pub mod Isolated
-pub mod Lawful
-pub mod Numbered
-pub mod Fitted
-pub mod Reported
-pub mod Addressed
+mod Addressed
+mod Admitting
+mod Alone
+mod Fitted
+mod Histories
+mod Isolated
+mod Lawful
+mod Lives
+mod Numbered
+mod Others
+mod Places
+mod Reported
+mod Results
+mod Rows
+mod Served
+mod Sound

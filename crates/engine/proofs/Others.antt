@@ -1,5 +1,5 @@
 -- A call that is not for the worker at a place leaves that worker as it is: its span, state, registers and words.
-use Rattle.std.proofs.Common.{ℕ, ◌≡◌, ◌≢◌, ◌≤◌, ◌+◌, true, false, not, ◌&&◌, List, length, nat_le, nat_lt, slice_set, Result, Ok, Err, arith, ⊎_elim, ◌⊎◌, ◌∙◌, ap, sym, subst, refl}
+use Rattle.std.proofs.Common.{ℕ, ◌≡◌, ◌≢◌, ◌≤◌, ◌+◌, true, false, List, length, slice_set, Result, Ok, Err, arith, ⊎_elim, ◌⊎◌, ◌∙◌, ap, sym, subst, refl}
 use Rattle.std.proofs.lemmas.Bool.{cases_lt, and_cases}
 use Rattle.store.specs.Cells.{Cell}
 use Rattle.store.specs.declared.address.CellAddress.{CellAddress}
@@ -12,15 +12,16 @@ use Rattle.engine.specs.declared.place.Place.TheVariants.{Free, Ready, Held}
 use Rattle.engine.specs.declared.place.Span.{Span}
 use Rattle.engine.specs.declared.refusal.Refusal.{Refusal}
 use Rattle.engine.specs.declared.refusal.Refusal.TheVariants as refusal
-use Rattle.engine.specs.Admission.{Done, admit, retire, share, is_free, overlaps_any}
+use Rattle.engine.specs.Admission.{Done, admit, retire, share, is_free}
 use Rattle.engine.specs.FixedAddress.{fixed_address}
 use Rattle.engine.specs.Exchanges.{is_for}
 use Rattle.engine.specs.Installation.{Installation, Holder, holder, if_occupied, place_at, words_in, row_with}
 use Rattle.engine.specs.Performing.{ask, taken, performed}
 use Rattle.engine.specs.Serving.{served}
+use Rattle.engine.proofs.Admitting.{of_admit}
 use Rattle.engine.proofs.Histories.{of_call, its_lies, as_many}
 use Rattle.engine.proofs.Places.{Holds, holder_is, taken_is, holder_span, holder_holds, set_there}
-use Rattle.engine.proofs.Results.{OkIs, then_ok, ok_is, required_then}
+use Rattle.engine.proofs.Results.{OkIs, then_ok, ok_is}
 use Rattle.engine.proofs.Rows.{words_above, words_below}
 use Rattle.engine.proofs.Sound.{Sound}
 
@@ -74,15 +75,8 @@ module _ (i : Installation) (sound : Sound i) (p : ℕ) (h : Holder) (held : hol
       ∙ same_taken i.row row (place_at i.places p) h (same ∙ sym holds.words_are) (taken_is i p h held)
 
   admit_stays : (q : ℕ) (lower : CellAddress) (terms : Terms) → OkIs Stays (admit i q lower terms)
-  admit_stays q lower terms =
-      let span : Span = record { lower = lower; length = terms.length } in
-      required_then Stays (nat_le q 7) refusal.NoSuchPlace _ (λ exists.
-      required_then Stays (is_free (place_at i.places q)) refusal.PlaceOccupied _ (λ free.
-      required_then Stays (nat_le 1 terms.length && nat_le terms.length 32768) refusal.BadLength _ (λ good.
-      required_then Stays (nat_le (lower.0 + terms.length) (length i.row)) refusal.PastStore _ (λ inside.
-      required_then Stays (not (overlaps_any span i.places)) refusal.CellShared _ (λ apart.
-      required_then Stays (nat_lt terms.entry.0 terms.length) refusal.EntryPastLength _ (λ below.
-      stays i.row q _ (λ same. is_not_free i.row (place_at i.places p) h (taken_is i p h held) (subst (λ q. is_free (place_at i.places q) ≡ true) (sym same) free)) refl))))))
+  admit_stays q lower terms = of_admit i q lower terms Stays (λ passes.
+      stays i.row q _ (λ same. is_not_free i.row (place_at i.places p) h (taken_is i p h held) (subst (λ q. is_free (place_at i.places q) ≡ true) (sym same) passes.free)) refl)
 
   ask_stays : (q : ℕ) (what : Request (List ℕ)) → p ≢ q → OkIs Stays (ask i q what)
   ask_stays q what other =

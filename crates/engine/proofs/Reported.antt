@@ -27,6 +27,7 @@ use Rattle.engine.specs.Laws.{NoReportOfNoCell, NoRunEndsInNoCell}
 use Rattle.engine.specs.Own.{Own}
 use Rattle.engine.specs.Performing.{ask, taken}
 use Rattle.engine.specs.Serving.{Served, served, run_ready, machine_of, state_after}
+use Rattle.engine.proofs.Admitting.{of_admit}
 use Rattle.engine.proofs.Histories.{after_keeps, its_place, its_words, of_call}
 use Rattle.engine.proofs.Places.{set_all, free_at, some_is, none_is}
 use Rattle.engine.proofs.Results.{OkIs, then_ok, ok_is}
@@ -90,7 +91,7 @@ module _ (i : Installation) (sound : Sound i) (all : AllOfCell i) where
       set_all PlaceOfCell i.places p _ all (by_state s.own.state _ (ok_is LeftOfCell (served h.span.length h.own what) s gave (served_leaves h.span.length h.own words there what)))))
 
   taken_leaves : (c : Call (List ℕ)) → OkIs TakenOfCell (taken i c)
-  taken_leaves (call.Admit p lower terms) = search (then_ok, set_all PlaceOfCell, all) depth 9
+  taken_leaves (call.Admit p lower terms) = of_admit i p lower terms TakenOfCell (λ passes. set_all PlaceOfCell i.places p _ all tt)
   taken_leaves (call.Ask p what) = ask_leaves p what
   taken_leaves (call.Retire p) = then_ok TakenOfCell (holder i p) _ (λ h held. set_all PlaceOfCell i.places p place.Free all tt)
   taken_leaves (call.Span p) = then_ok TakenOfCell (holder i p) _ (λ h held. all)

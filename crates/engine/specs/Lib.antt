@@ -1,10 +1,10 @@
-pub mod Refusals
-pub mod Own
-pub mod Serving
+pub mod Admission
+pub mod Exchanges
 pub mod FixedAddress
 pub mod Installation
-pub mod Admission
-pub mod Performing
-pub mod Exchanges
 pub mod Isolation
 pub mod Laws
+pub mod Own
+pub mod Performing
+pub mod Refusals
+pub mod Serving
