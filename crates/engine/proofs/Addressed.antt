@@ -18,9 +18,8 @@ use Rattle.engine.specs.declared.place.Place.TheVariants as place
 use Rattle.engine.specs.declared.place.Worker.{Worker}
 use Rattle.engine.specs.declared.refusal.Refusal.{Refusal}
 use Rattle.engine.specs.declared.refusal.Refusal.TheVariants as refusal
-use Rattle.engine.specs.Admission.{Done}
 use Rattle.engine.specs.Exchanges.{after}
-use Rattle.engine.specs.Installation.{Installation, holder, if_occupied, made, place_at, worker_at}
+use Rattle.engine.specs.Installation.{Installation, holder, if_occupied, made, place_at, worker_at, Done}
 use Rattle.engine.specs.Refusals.{refusal_of}
 use Rattle.engine.specs.Laws.{WordsBelowLength}
 use Rattle.engine.specs.Own.{Own}

@@ -8,8 +8,8 @@ use Rattle.engine.specs.declared.place.Place.TheVariants.{Ready}
 use Rattle.engine.specs.declared.place.Span.{Span}
 use Rattle.engine.specs.declared.place.Worker.{Worker}
 use Rattle.engine.specs.declared.refusal.Refusal.TheVariants as refusal
-use Rattle.engine.specs.Admission.{Done, admit, is_free, overlaps_any}
-use Rattle.engine.specs.Installation.{Installation, place_at}
+use Rattle.engine.specs.Admission.{admit, is_free, overlaps_any}
+use Rattle.engine.specs.Installation.{Installation, place_at, Done}
 use Rattle.engine.proofs.Results.{OkIs, required_then}
 use Rattle.engine.proofs.Sound.{Lies}
 

@@ -9,7 +9,7 @@ use Rattle.engine.specs.declared.call.Request.{Request}
 use Rattle.engine.specs.declared.call.Request.TheVariants as request
 use Rattle.engine.specs.declared.refusal.Refusal.{Refusal}
 use Rattle.engine.specs.declared.refusal.Refusal.TheVariants as refusal
-use Rattle.engine.specs.Installation.{Installation, Holder, holder, holder_of, if_occupied, place_at, place_by, words_in, row_with, with_own}
+use Rattle.engine.specs.Installation.{Installation, Holder, holder, holder_of, if_occupied, place_at, place_by, words_in, row_with, with_own, Done}
 use Rattle.engine.specs.Own.{Own}
 use Rattle.engine.specs.Performing.{taken_or_refused, request_refused, performed}
 use Rattle.engine.specs.Serving.{Served, served, serving}
@@ -18,7 +18,6 @@ use Rattle.engine.proofs.Places.{Holds, holder_is, holder_holds, holder_span, se
 use Rattle.engine.proofs.Results.{ok_is}
 use Rattle.engine.proofs.Rows.{words_there}
 use Rattle.engine.proofs.Sound.{Sound}
-use Rattle.engine.specs.Admission.{Done}
 use Rattle.engine.specs.declared.answer.State.{State}
 use Rattle.engine.specs.declared.answer.State.TheVariants as state
 use Rattle.engine.specs.declared.place.Place.TheVariants.{Free}

@@ -18,9 +18,9 @@ use Rattle.engine.specs.declared.place.Place.{Place}
 use Rattle.engine.specs.declared.place.Place.TheVariants as place
 use Rattle.engine.specs.declared.place.Worker.{Worker}
 use Rattle.engine.specs.declared.refusal.Refusal.TheVariants as refusal
-use Rattle.engine.specs.Admission.{Done, admit, retire}
+use Rattle.engine.specs.Admission.{admit, retire}
 use Rattle.engine.specs.FixedAddress.{fixed_address}
-use Rattle.engine.specs.Installation.{Installation, Holder, holder, made, place_at, place_by, worker_of}
+use Rattle.engine.specs.Installation.{Installation, Holder, holder, made, place_at, place_by, worker_of, Done}
 use Rattle.engine.specs.Laws.{RegistersFit}
 use Rattle.engine.specs.Own.{Own, is_held}
 use Rattle.engine.specs.Performing.{ask, taken}

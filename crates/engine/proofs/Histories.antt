@@ -6,10 +6,10 @@ use Rattle.engine.specs.declared.call.Request.{Request}
 use Rattle.engine.specs.declared.call.Terms.{Terms}
 use Rattle.engine.specs.declared.refusal.Refusal.{Refusal}
 use Rattle.store.specs.declared.address.CellAddress.{CellAddress}
-use Rattle.engine.specs.Admission.{Done, admit, retire, span_of}
+use Rattle.engine.specs.Admission.{admit, retire, span_of}
 use Rattle.engine.specs.FixedAddress.{fixed_address}
 use Rattle.engine.specs.Exchanges.{after}
-use Rattle.engine.specs.Installation.{Installation, Holder, holder, place_at}
+use Rattle.engine.specs.Installation.{Installation, Holder, holder, place_at, Done}
 use Rattle.engine.specs.Performing.{ask, taken, refused, taken_or_refused, performed}
 use Rattle.engine.specs.Serving.{Served, served}
 use Rattle.engine.proofs.Admitting.{new_worker, of_admit}

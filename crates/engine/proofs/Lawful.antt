@@ -9,9 +9,9 @@ use Rattle.engine.specs.declared.call.Call.TheVariants as call
 use Rattle.engine.specs.declared.call.Request.{Request}
 use Rattle.engine.specs.declared.call.Request.TheVariants as request
 use Rattle.engine.specs.declared.refusal.Refusal.{Refusal}
-use Rattle.engine.specs.Admission.{Done, share}
+use Rattle.engine.specs.Admission.{share}
 use Rattle.engine.specs.Exchanges.{after}
-use Rattle.engine.specs.Installation.{Installation, holder, made}
+use Rattle.engine.specs.Installation.{Installation, holder, made, Done}
 use Rattle.engine.specs.Refusals.{refusal_of}
 use Rattle.engine.specs.Laws.{RefusedLeaveAll, NoCellIsShared, RowKeepsLength, WorkersLieInRow}
 use Rattle.engine.specs.Performing.{ask, taken, refused, request_refused, performed}

@@ -12,10 +12,10 @@ use Rattle.engine.specs.declared.place.Place.TheVariants.{Free, Ready, Held}
 use Rattle.engine.specs.declared.place.Span.{Span}
 use Rattle.engine.specs.declared.refusal.Refusal.{Refusal}
 use Rattle.engine.specs.declared.refusal.Refusal.TheVariants as refusal
-use Rattle.engine.specs.Admission.{Done, admit, retire, share, is_free}
+use Rattle.engine.specs.Admission.{admit, retire, share, is_free}
 use Rattle.engine.specs.FixedAddress.{fixed_address}
 use Rattle.engine.specs.Exchanges.{is_for}
-use Rattle.engine.specs.Installation.{Installation, Holder, holder, if_occupied, place_at, words_in, row_with}
+use Rattle.engine.specs.Installation.{Installation, Holder, holder, if_occupied, place_at, words_in, row_with, Done}
 use Rattle.engine.specs.Performing.{ask, taken, performed}
 use Rattle.engine.specs.Serving.{served}
 use Rattle.engine.proofs.Admitting.{of_admit}

@@ -20,9 +20,8 @@ use Rattle.engine.specs.declared.call.Request.TheVariants as request
 use Rattle.engine.specs.declared.place.Place.{Place}
 use Rattle.engine.specs.declared.place.Place.TheVariants as place
 use Rattle.engine.specs.declared.place.Worker.{Worker}
-use Rattle.engine.specs.Admission.{Done}
 use Rattle.engine.specs.FixedAddress.{fixed_address}
-use Rattle.engine.specs.Installation.{Installation, holder, made, place_at, place_by}
+use Rattle.engine.specs.Installation.{Installation, holder, made, place_at, place_by, Done}
 use Rattle.engine.specs.Laws.{NoReportOfNoCell, NoRunEndsInNoCell}
 use Rattle.engine.specs.Own.{Own}
 use Rattle.engine.specs.Performing.{ask, taken}

@@ -4,7 +4,6 @@ use Rattle.std.specs.List.{list_any}
 use Rattle.store.specs.declared.address.CellAddress.{CellAddress}
 use Rattle.records.specs.Registers.{starting_at}
 use Rattle.processor.specs.Then.{◌>>=◌}
-use Rattle.engine.specs.declared.answer.Answer.{Answer}
 use Rattle.engine.specs.declared.answer.Answer.TheVariants as answer
 use Rattle.engine.specs.declared.call.Terms.{Terms}
 use Rattle.engine.specs.declared.place.Place.{Place}
@@ -13,13 +12,8 @@ use Rattle.engine.specs.declared.place.Span.{Span}
 use Rattle.engine.specs.declared.place.Worker.{Worker}
 use Rattle.engine.specs.declared.refusal.Refusal.{Refusal}
 use Rattle.engine.specs.declared.refusal.Refusal.TheVariants as refusal
-use Rattle.engine.specs.Installation.{Installation, place_at, worker_of, holder}
+use Rattle.engine.specs.Installation.{Installation, place_at, worker_of, holder, Done}
 use Rattle.engine.specs.Refusals.{require}
-
--- an answer, and the installation after it
-pub record Done : Type 0 where
-  pub answer : Answer (List ℕ)
-  pub installation : Installation
 
 abbrev pub is_free : Place → Bool
 is_free Free = true

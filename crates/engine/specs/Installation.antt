@@ -2,6 +2,7 @@
 use Rattle.std.specs.Prelude.{ℕ, ◌+◌, List, ◌++◌, take, drop, replicate, nat_le, slice_index_or, slice_set, Result, Ok, Err, Option, Some, None}
 use Rattle.store.specs.Cells.{Cell}
 use Rattle.processor.specs.Then.{◌>>=◌}
+use Rattle.engine.specs.declared.answer.Answer.{Answer}
 use Rattle.engine.specs.declared.answer.State.{State}
 use Rattle.engine.specs.declared.answer.State.TheVariants as state
 use Rattle.engine.specs.declared.place.Place.{Place}
@@ -16,6 +17,11 @@ use Rattle.engine.specs.Refusals.{require}
 pub record Installation : Type 0 where
   pub row : List Cell
   pub places : List Place
+
+-- an answer, and the installation after it
+pub record Done : Type 0 where
+  pub answer : Answer (List ℕ)
+  pub installation : Installation
 
 -- a new one: all places are free
 abbrev pub made : List Cell → Installation

@@ -8,9 +8,9 @@ use Rattle.engine.specs.declared.call.Call.TheVariants as call
 use Rattle.engine.specs.declared.call.Request.{Request}
 use Rattle.engine.specs.declared.call.Request.TheVariants as request
 use Rattle.engine.specs.declared.refusal.Refusal.{Refusal}
-use Rattle.engine.specs.Admission.{Done, admit, retire, span_of}
+use Rattle.engine.specs.Admission.{admit, retire, span_of}
 use Rattle.engine.specs.FixedAddress.{fixed_address}
-use Rattle.engine.specs.Installation.{Installation, holder, with_own}
+use Rattle.engine.specs.Installation.{Installation, holder, with_own, Done}
 use Rattle.engine.specs.Serving.{served}
 
 -- a worker's words are taken out of the row, it is served, and they are put back
