@@ -13,7 +13,7 @@ use Rattle.engine.specs.Admission.{share}
 use Rattle.engine.specs.Exchanges.{after}
 use Rattle.engine.specs.Installation.{Installation, holder, made, Done}
 use Rattle.engine.specs.Refusals.{refusal_of}
-use Rattle.engine.specs.Laws.{RefusedLeaveAll, NoCellIsShared, RowKeepsLength, WorkersLieInRow}
+use Rattle.engine.specs.Laws.{RefusedLeaveAll, RefusedSaveLeavesBuffer, NoCellIsShared, RowKeepsLength, WorkersLieInRow}
 use Rattle.engine.specs.Performing.{ask, taken, refused, request_refused, performed}
 use Rattle.engine.proofs.Admitting.{of_admit}
 use Rattle.engine.proofs.Histories.{of_call, performed_sound, after_sound, its_lies, as_many}
@@ -116,3 +116,6 @@ pub refused_leave_all : RefusedLeaveAll
 refused_leave_all i c e = of_call (λ t. refusal_of t.answer ≡ Some e → t ≡ record { answer = refused c e; installation = i }) i c
     (λ f same. ap (λ e. record { answer = refused c e; installation = i }) (some_is f e (sym (told c f) ∙ same)))
     (never (λ t. t ≡ record { answer = refused c e; installation = i }) e (taken i c) (taken_untold i c))
+
+pub refused_save_leaves_buffer : RefusedSaveLeavesBuffer
+refused_save_leaves_buffer i p buffer e same = ap (λ done. done.answer) (refused_leave_all i (call.Ask p (request.Save buffer)) e same)

@@ -2,6 +2,7 @@ mod Addressed
 mod Admitting
 mod Alone
 mod Fitted
+mod Framed
 mod Histories
 mod Isolated
 mod Lawful
@@ -11,6 +12,7 @@ mod Others
 mod Places
 mod Reported
 mod Results
+mod Room
 mod Rows
 mod Served
 mod Sound

@@ -1,6 +1,7 @@
 -- What holds of every call, and after every history of an installation from its making.
-use Rattle.std.specs.Prelude.{◌≡◌, ◌≢◌, ◌↔◌, ℕ, ◌+◌, ◌<◌, ◌≤◌, List, length, Option, Some, Ok}
-use Rattle.store.specs.Cells.{Cell}
+use Rattle.std.specs.Prelude.{◌≡◌, ◌≢◌, ◌↔◌, ℕ, ◌+◌, ◌<◌, ◌≤◌, true, List, length, map, Option, Some, None, Ok, Err}
+use Rattle.store.specs.Cells.{Cell, cell_at}
+use Rattle.store.specs.declared.address.CellAddress.{CellAddress}
 use Rattle.store.specs.declared.fault.Fault.TheVariants.{NoCell}
 use Rattle.records.specs.Registers.{Fits}
 use Rattle.processor.specs.declared.address.RelativeAddress.{RelativeAddress}
@@ -11,21 +12,23 @@ use Rattle.engine.specs.declared.call.Call.{Call}
 use Rattle.engine.specs.declared.call.Call.TheVariants as call
 use Rattle.engine.specs.declared.call.Request.{Request}
 use Rattle.engine.specs.declared.call.Request.TheVariants as request
-use Rattle.engine.specs.declared.place.Place.TheVariants.{Held}
+use Rattle.engine.specs.declared.call.Terms.{Terms}
+use Rattle.engine.specs.declared.place.Place.{Place}
+use Rattle.engine.specs.declared.place.Place.TheVariants.{Free, Ready, Held}
+use Rattle.engine.specs.declared.place.Span.{Span}
 use Rattle.engine.specs.declared.place.Worker.{Worker}
 use Rattle.engine.specs.declared.refusal.Refusal.{Refusal}
 use Rattle.engine.specs.declared.refusal.Refusal.TheVariants.{AddressPastLength}
 use Rattle.processor.specs.declared.outcome.Ran.{Ran}
 use Rattle.processor.specs.declared.report.Cause.{Cause}
 use Rattle.processor.specs.Run.{report_of}
-use Rattle.engine.specs.declared.answer.Answer.TheVariants as answer
-use Rattle.engine.specs.Exchanges.{after}
+use Rattle.engine.specs.Exchanges.{after, is_for}
 use Rattle.engine.specs.FixedAddress.{cause_numbered}
 use Rattle.engine.specs.Refusals.{refusal_of}
 use Rattle.engine.specs.Installation.{Installation, made, place_at, worker_at}
 use Rattle.engine.specs.Performing.{refused, performed}
 
--- a call whose answer tells a refusal leaves the installation as it was; a save's answer then has the buffer as it was
+-- a call whose answer tells a refusal leaves the installation as it was, and answers no more than the refusal
 abbrev pub RefusedLeaveAll : Type 0
 RefusedLeaveAll = (i : Installation) (c : Call (List ℕ)) (e : Refusal)
     → refusal_of (performed i c).answer ≡ Some e
@@ -39,10 +42,35 @@ Has w cell = (w.span.lower.0 ≤ cell) × (cell < w.span.lower.0 + w.span.length
 abbrev pub IsAt : List Cell → List (Call (List ℕ)) → ℕ → Worker → Type 0
 IsAt row calls p w = worker_at (after (made row) calls) p ≡ Some w
 
+-- a save that is refused answers the buffer as it was
+abbrev pub RefusedSaveLeavesBuffer : Type 0
+RefusedSaveLeavesBuffer = (i : Installation) (p : ℕ) (buffer : List ℕ) (e : Refusal)
+    → refusal_of (performed i (call.Ask p (request.Save buffer))).answer ≡ Some e
+    → (performed i (call.Ask p (request.Save buffer))).answer ≡ answer.Saved (Err e) buffer
+
 -- two workers that have a cell in common are one
 abbrev pub NoCellIsShared : Type 0
 NoCellIsShared = (row : List Cell) (calls : List (Call (List ℕ))) (p q : ℕ) (v w : Worker) (cell : ℕ)
     → IsAt row calls p v → IsAt row calls q w → Has v cell → Has w cell → p ≡ q
+
+-- a call changes no cell but those of the worker that it is for
+abbrev pub OnlyItsCells : Type 0
+OnlyItsCells = (row : List Cell) (calls : List (Call (List ℕ))) (c : Call (List ℕ)) (cell : ℕ)
+    → ((p : ℕ) (w : Worker) → is_for p c ≡ true → IsAt row calls p w → Has w cell → ⊥)
+    → cell_at (performed (after (made row) calls) c).installation.row cell ≡ cell_at (after (made row) calls).row cell
+
+-- the span of a place's worker
+abbrev pub span_of_place : Place → Option Span
+span_of_place Free = None
+span_of_place (Ready w) = Some w.span
+span_of_place (Held w report) = Some w.span
+
+-- an admit is answered alike wherever there are as many cells and the places have the same spans, whatever else is different
+abbrev pub AdmitsBySpans : Type 0
+AdmitsBySpans = (i j : Installation) (p : ℕ) (lower : CellAddress) (terms : Terms)
+    → length i.row ≡ length j.row
+    → map span_of_place i.places ≡ map span_of_place j.places
+    → (performed i (call.Admit p lower terms)).answer ≡ (performed j (call.Admit p lower terms)).answer
 
 -- the row has as many cells as at the making
 abbrev pub RowKeepsLength : Type 0

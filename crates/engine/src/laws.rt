@@ -1,7 +1,7 @@
 // The laws of the definition of calls. Each function does nothing: its contract is all there is to it. They speak of the definition, in
 // specs/, and not yet of running code.
 ghost use Rattle.engine.specs.Isolation.{Isolation};
-ghost use Rattle.engine.specs.Laws.{RefusedLeaveAll, NoCellIsShared, RowKeepsLength, WorkersLieInRow, RegistersFit, NoReportOfNoCell, NoRunEndsInNoCell, WordsBelowLength, CausesAreNumbered};
+ghost use Rattle.engine.specs.Laws.{RefusedLeaveAll, RefusedSaveLeavesBuffer, OnlyItsCells, NoCellIsShared, AdmitsBySpans, RowKeepsLength, WorkersLieInRow, RegistersFit, NoReportOfNoCell, NoRunEndsInNoCell, WordsBelowLength, CausesAreNumbered};
 
 // No worker's answers, registers or words depend on where it lies or on what else is called.
 pub fn definition_isolates_workers()
@@ -10,7 +10,13 @@ pub fn definition_isolates_workers()
 
 // A refused call leaves the installation as it was, and a refused save its buffer.
 pub fn definition_leaves_all_on_refusal()
-    ensures { RefusedLeaveAll }
+    ensures all { RefusedLeaveAll }
+    ensures buffer { RefusedSaveLeavesBuffer }
+{}
+
+// A call changes no cell but those of the worker that it is for.
+pub fn definition_changes_only_its_cells()
+    ensures { OnlyItsCells }
 {}
 
 // After any history from the making no two workers have a cell in common, each lies in the row, and the row is as long as it was.
@@ -18,6 +24,11 @@ pub fn definition_keeps_workers_apart()
     ensures apart { NoCellIsShared }
     ensures inside { WorkersLieInRow }
     ensures length { RowKeepsLength }
+{}
+
+// Whether an admit is taken, and how it is refused, follows from the number of cells and the spans of the workers.
+pub fn definition_admits_by_spans()
+    ensures { AdmitsBySpans }
 {}
 
 // The registers of every worker have no more bits than they can have, after any history from the making.

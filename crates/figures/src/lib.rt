@@ -13,12 +13,15 @@ ghost use Rattle.processor.specs.declared.report.Report.TheVariants.{IllegalInst
 ghost use Rattle.processor.specs.Reports.{relative, told_by};
 ghost use Rattle.engine.specs.declared.answer.Answer.TheVariants.{Admitted, Looked, Saved};
 ghost use Rattle.engine.specs.declared.answer.State.TheVariants.{Held, Ready};
-ghost use Rattle.engine.specs.declared.call.Call.TheVariants.{Ask};
+ghost use Rattle.engine.specs.declared.call.Call.TheVariants.{Ask, Retire};
 ghost use Rattle.engine.specs.declared.call.Request.TheVariants.{Restore, Run, Save, Tell};
-ghost use Rattle.engine.specs.Exchanges.{answers_in, exchanges};
+ghost use Rattle.engine.specs.Exchanges.{answers_in, calls_in, ends_by_retire, exchanges, exchanges_with};
+ghost use Rattle.engine.specs.Laws.{Has};
+ghost use Rattle.records.specs.Registers.{starting_at};
+ghost use Rattle.figures.specs.Histories.{fixed_addresses, life, mixed, refusals};
 ghost use Rattle.engine.specs.Installation.{made};
 ghost use Rattle.store.specs.declared.half.Half.TheVariants.{Lower};
-ghost use Rattle.figures.specs.Programs.{adding, admit, asked, called, counting, half_spoiled, illegal, jumping, look, number, number_at, number_of_half, ran, record_with, reference, refusal_told, scaling, shifting, told};
+ghost use Rattle.figures.specs.Programs.{adding, admit, asked, called, cells, counting, half_spoiled, illegal, jumping, look, number, number_at, number_of_half, ran, record_with, reference, refusal_told, scaling, shifting, told};
 
 // Does nothing: its contract is all there is to it.
 pub fn worked_figures()
@@ -50,6 +53,15 @@ pub fn worked_figures()
     ensures side_by_side { map refusal_told (called 64 (admit 0 0 8 0 ∷ admit 1 7 1 0 ∷ admit 1 8 1 0 ∷ [])) ≡ None ∷ number 6 ∷ None ∷ [] }
     ensures wide_field { map refusal_told (called 8 (admit 0 0 8 0 ∷ Ask 0 (Restore (record_with 17 128)) ∷ [])) ≡ None ∷ number_at 18 17 ∷ [] }
     ensures spoiled_look { map refusal_told (answers_in (exchanges (made (half_spoiled ∷ [])) (admit 0 0 1 0 ∷ Ask 0 (look 0) ∷ []))) ≡ None ∷ number_of_half 19 Lower ∷ [] }
+    ensures life { exchanges (made (cells 16 [])) (calls_in life) ≡ life }
+    ensures refusals { exchanges (made (cells 16 [])) (calls_in refusals) ≡ refusals }
+    ensures fixed_addresses { exchanges (made []) (calls_in fixed_addresses) ≡ fixed_addresses }
+    ensures calls_for { calls_in (exchanges_with 0 mixed) ≡ Ask 0 Tell ∷ Retire 0 ∷ [] }
+    ensures ends { ends_by_retire 0 (Ask 0 Tell ∷ Retire 1 ∷ []) ≡ true }
+    ensures ends_at_retire { ends_by_retire 0 (Ask 0 Tell ∷ Retire 0 ∷ []) ≡ true }
+    ensures goes_on_after_retire { ends_by_retire 0 (Retire 0 ∷ Ask 1 Tell ∷ []) ≡ false }
+    ensures first_cell { Has (record { span = record { lower = record { 0 = 2 }; length = 3 }; registers = starting_at 0 }) 2 }
+    ensures last_cell { Has (record { span = record { lower = record { 0 = 2 }; length = 3 }; registers = starting_at 0 }) 4 }
     ensures executive_return_told { told_by (ExecutiveReturn (relative 10)) ≡ record { cause = 4; address = 10; kind = None; fault = None } }
     ensures write_protection_told { told_by (Protection (reference Write 7)) ≡ record { cause = 2; address = 7; kind = Some Write; fault = None } }
     ensures fetch_protection_told { told_by (Protection (reference Fetch 8)) ≡ record { cause = 2; address = 8; kind = Some Fetch; fault = None } }

@@ -9,7 +9,8 @@ use Rattle.processor.specs.Repertoire.{operation_of}
 use Rattle.processor.specs.Run.{run}
 use Rattle.processor.specs.Skips.{skip_met, product_skip_met}
 use Rattle.processor.specs.Step.{step, tried, instruction_effect}
-use Rattle.engine.specs.Exchanges.{exchanges}
+use Rattle.engine.specs.Exchanges.{ends_by_retire, exchanges, exchanges_with}
+use Rattle.engine.specs.FixedAddress.{fixed_address}
 use Rattle.engine.specs.Performing.{performed}
 use Rattle.engine.specs.Serving.{served}
 use Rattle.words.specs.Scale.{scale_factor, turns_within}
@@ -112,3 +113,31 @@ returns-clause-wide_field c = refl
 pub returns-clause-spoiled_look : goal.returns-clause-spoiled_look
 unfolding exchanges performed served
 returns-clause-spoiled_look c = refl
+
+pub returns-clause-life : goal.returns-clause-life
+unfolding exchanges performed served fixed_address run step tried instruction_effect operation_of skip_met product_skip_met record_of record_read registers_in too_wide
+returns-clause-life c = refl
+
+pub returns-clause-refusals : goal.returns-clause-refusals
+unfolding exchanges performed served fixed_address run step tried instruction_effect operation_of skip_met product_skip_met record_of record_read registers_in too_wide
+returns-clause-refusals c = refl
+
+pub returns-clause-fixed_addresses : goal.returns-clause-fixed_addresses
+unfolding exchanges performed served fixed_address run step tried instruction_effect operation_of skip_met product_skip_met record_of record_read registers_in too_wide
+returns-clause-fixed_addresses c = refl
+
+pub returns-clause-calls_for : goal.returns-clause-calls_for
+unfolding exchanges_with
+returns-clause-calls_for c = refl
+
+pub returns-clause-ends : goal.returns-clause-ends
+unfolding ends_by_retire
+returns-clause-ends c = refl
+
+pub returns-clause-ends_at_retire : goal.returns-clause-ends_at_retire
+unfolding ends_by_retire
+returns-clause-ends_at_retire c = refl
+
+pub returns-clause-goes_on_after_retire : goal.returns-clause-goes_on_after_retire
+unfolding ends_by_retire
+returns-clause-goes_on_after_retire c = refl

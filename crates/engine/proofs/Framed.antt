@@ -1,0 +1,69 @@
+-- A call changes no cell but those of the worker that it is for.
+use Rattle.std.proofs.Common.{ℕ, ◌≡◌, ◌+◌, ◌==◌, true, List, drop, refl, ap, sym, ◌∙◌, arith, ⊎_elim, Some}
+use Rattle.std.proofs.lemmas.Bool.{cases_lt}
+use Rattle.std.proofs.lemmas.List.{get_or-take, get_or-drop}
+use Rattle.store.specs.Cells.{Cell, cell_at}
+use Rattle.engine.specs.declared.answer.State.{State}
+use Rattle.engine.specs.declared.answer.State.TheVariants.{Ready, Held}
+use Rattle.engine.specs.declared.call.Call.{Call}
+use Rattle.engine.specs.declared.call.Call.TheVariants as call
+use Rattle.engine.specs.declared.call.Request.{Request}
+use Rattle.engine.specs.declared.place.Worker.{Worker}
+use Rattle.engine.specs.Exchanges.{after, is_for}
+use Rattle.engine.specs.Installation.{Installation, Done, holder, made, place_by, worker_of, worker_at, words_in}
+use Rattle.engine.specs.Laws.{Has, OnlyItsCells}
+use Rattle.engine.specs.Performing.{ask, taken, performed}
+use Rattle.engine.specs.Serving.{served}
+use Rattle.engine.proofs.Admitting.{of_admit}
+use Rattle.engine.proofs.Histories.{of_call, its_lies, its_place, as_many}
+use Rattle.engine.proofs.Lawful.{sound_after}
+use Rattle.engine.proofs.Results.{OkIs, then_ok}
+use Rattle.engine.proofs.Rows.{words_above, words_below}
+use Rattle.engine.proofs.Sound.{Sound}
+
+worker_by : (state : State) (w : Worker) → worker_of (place_by state w) ≡ Some w
+worker_by Ready w = refl
+worker_by (Held report) w = refl
+
+module _ (i : Installation) (sound : Sound i) (cell : ℕ) where
+  abbrev Stays : Done → Type 0
+  Stays t = words_in t.installation.row cell 1 ≡ words_in i.row cell 1
+
+  abbrev NotIts : Call (List ℕ) → Type 0
+  NotIts c = (p : ℕ) (w : Worker) → is_for p c ≡ true → worker_at i p ≡ Some w → Has w cell → ⊥
+
+  ask_stays : (p : ℕ) (what : Request (List ℕ)) → NotIts (call.Ask p what) → OkIs Stays (ask i p what)
+  ask_stays p what other =
+      then_ok Stays (holder i p) _ (λ h held.
+      then_ok Stays (served h.span.length h.own what) _ (λ s gave.
+      let w : Worker = record { span = h.span; registers = h.own.registers } in
+      let at : worker_at i p ≡ Some w = ap worker_of (its_place i sound p h held).place_is ∙ worker_by h.own.state w in
+      let same : (p == p) ≡ true = grind arith in
+      let inside = (its_lies i sound p h held).inside in
+      let many = as_many i sound p h held what s gave in
+      ⊎_elim
+      (λ below. words_below i.row h.span.lower.0 h.span.length inside s.own.words many cell 1 (omega (arith, below)))
+      (λ from. ⊎_elim
+      (λ within. absurd (other p w same at (from, within)))
+      (λ past. words_above i.row h.span.lower.0 h.span.length inside s.own.words many cell 1 past)
+      (cases_lt cell (h.span.lower.0 + h.span.length)))
+      (cases_lt cell h.span.lower.0)))
+
+  taken_stays : (c : Call (List ℕ)) → NotIts c → OkIs Stays (taken i c)
+  taken_stays (call.Admit p lower terms) other = of_admit i p lower terms Stays (λ passes. refl)
+  taken_stays (call.Ask p what) other = ask_stays p what other
+  taken_stays (call.Retire p) other = search (then_ok)
+  taken_stays (call.Span p) other = search (then_ok)
+  taken_stays (call.FixedAddress number address) other = search (then_ok)
+
+-- the cell at an address is the first of the words from there
+first_word : (row : List Cell) (cell : ℕ) → cell_at (words_in row cell 1) 0 ≡ cell_at row cell
+first_word row cell = get_or-take 1 (drop cell row) 0 _ (omega arith) ∙ get_or-drop cell row 0 _ ∙ ap (cell_at row) (omega arith)
+
+pub only_its_cells : OnlyItsCells
+only_its_cells row calls c cell other =
+    let i = after (made row) calls in
+    let j = (performed i c).installation in
+    sym (first_word j.row cell)
+    ∙ ap (λ words. cell_at words 0) (of_call (Stays i (sound_after row calls) cell) i c (λ e. refl) (taken_stays i (sound_after row calls) cell c other))
+    ∙ first_word i.row cell
