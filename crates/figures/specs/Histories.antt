@@ -1,4 +1,4 @@
--- Calls of an installation with 16 cells of zeros, each with the answer that was worked out by hand.
+-- Calls of an installation, each with its answer, worked out by hand; those of the first two lists are over 16 cells of zeros.
 use Rattle.std.specs.Prelude.{ℕ, List, [], ◌∷◌, ◌++◌, replicate, Ok, Err}
 use Rattle.store.specs.declared.address.CellAddress.{CellAddress}
 use Rattle.records.specs.Record.{record_of}
@@ -29,7 +29,7 @@ load place r w = Ask place (Load (relative r) w)
 abbrev pub five_and_six : List ℕ
 five_and_six = record_of (record { a = 5; q = 6; b = replicate 7 0; p = 4 })
 
--- one worker's life and the next one's: every call, taken
+-- one worker's life and the next one's: every call at a place, taken, and one refused since the worker is gone
 abbrev pub life : List Exchange
 life =
     (admit 0 2 8 1 gets answer.Admitted (Ok tt)) ∷
@@ -53,7 +53,7 @@ life =
     (Ask 1 (look 5) gets answer.Looked (Ok 0o7754000012)) ∷
     []
 
--- what is refused, with the number of the refusal at the end of each line
+-- what is refused, with the number of the refusal where it comes first; for 19 a half has to be spoiled, as in another figure
 abbrev pub refusals : List Exchange
 refusals =
     (admit 8 0 1 0 gets answer.Admitted (Err refusal.NoSuchPlace)) ∷  -- 1

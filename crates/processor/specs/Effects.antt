@@ -43,22 +43,24 @@ skip_if test = if test then skipping else onward
 abbrev pub leaving : Registers → Next → Effect
 leaving r next = record { registers = r; puts = []; next = next }
 
--- each put is tried as a reference that writes, in order
+-- a put is tried as a reference that writes
 abbrev pub put_tried : Machine → Put → Result (Unit {0}) Report
 put_tried m (whole r w) = refer m Write r (put_whole_answer m.words r)
 put_tried m (half r h x) = refer m Write r (put_half_answer m.words r h)
 
+-- all of them, in order
 abbrev pub puts_tried : Machine → List Put → Result (Unit {0}) Report
 puts_tried m [] = Ok tt
 puts_tried m (p ∷ ps) = do
   done ← put_tried m p
   puts_tried m ps
 
--- the words with all of them done
+-- the words with one put done
 abbrev pub put_done : List Cell → Put → List Cell
 put_done words (whole r w) = whole_put words r w
 put_done words (half r h x) = half_put words r h x
 
+-- and with all of them done, in order
 abbrev pub puts_done : List Cell → List Put → List Cell
 puts_done words [] = words
 puts_done words (p ∷ ps) = puts_done (put_done words p) ps

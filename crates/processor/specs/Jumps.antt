@@ -22,10 +22,11 @@ jump m i = do
   t ← target m i
   Ok (leaving m.registers (if skip_met i.j m.registers then jumping t else onward))
 
--- 64: if j's test holds, puts P + 1 in the lower half of the word at the target and goes on after that word, both modulo 32,768
+-- puts P + 1 in the lower half of the word at the target and goes on after that word, both modulo 32,768
 abbrev pub returning : Registers → ℕ → Effect
 returning r t = record { registers = r; puts = half t Lower ((r.p + 1) % 2 ^ 15) ∷ []; next = jumping ((t + 1) % 2 ^ 15) }
 
+-- 64: that, if j's test holds
 abbrev pub return_jump : Machine → Fields → Result Effect Report
 return_jump m i = do
   t ← target m i

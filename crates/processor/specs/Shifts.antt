@@ -26,7 +26,7 @@ shifted shift A r count = record r { a = shift 30 r.a count }
 shifted shift Q r count = record r { q = shift 30 r.q count }
 shifted shift Aq r count = let aq = shift 60 (over r.a r.q) count in record r { a = upper_word aq; q = lower_word aq }
 
--- 01 to 07: by the operand, and a skip by j
+-- 01 to 03 and 05 to 07: by the operand, and a skip by j
 abbrev pub shift_by_operand : (ℕ → ℕ → ℕ → ℕ) → Shifted → Machine → Fields → Result Effect Report
 shift_by_operand shift which m i = do
   y ← operand m i

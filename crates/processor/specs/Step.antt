@@ -49,7 +49,7 @@ effect_of op.JumpOnB = jumps.jump_on_b
 effect_of op.ExecutiveReturn = executive.executive_return
 effect_of op.TestAndSet = executive.test_and_set
 
--- a code that is no instruction is illegal
+-- a code that is no instruction is illegal, and so is one with a k that it does not allow
 abbrev pub effect_if : Option Operation → Machine → Fields → Result Effect Report
 effect_if (Some operation) m i = effect_of operation m i
 effect_if None m i = Err (IllegalInstruction (relative m.registers.p))
