@@ -19,7 +19,7 @@ use Rattle.engine.specs.declared.place.Worker.{Worker}
 use Rattle.engine.specs.declared.refusal.Refusal.{Refusal}
 use Rattle.engine.specs.declared.refusal.Refusal.TheVariants as refusal
 use Rattle.engine.specs.Exchanges.{after}
-use Rattle.engine.specs.Installation.{Installation, holder, if_occupied, made, place_at, worker_at, Done}
+use Rattle.engine.specs.Installation.{Installation, holder, if_occupied, made, place_at, worker_at, Done, span_in}
 use Rattle.engine.specs.Refusals.{refusal_of}
 use Rattle.engine.specs.Laws.{WordsBelowLength}
 use Rattle.engine.specs.Own.{Own}
@@ -28,7 +28,7 @@ use Rattle.engine.specs.Refusals.{require, by_store}
 use Rattle.engine.specs.Serving.{served, load, look}
 use Rattle.engine.proofs.Histories.{its_words}
 use Rattle.engine.proofs.Lawful.{Untold, taken_untold, told, sound_after}
-use Rattle.engine.proofs.Places.{span_in, some_is, holder_span}
+use Rattle.engine.proofs.Places.{some_is, holder_span}
 use Rattle.engine.proofs.Results.{OkIs}
 use Rattle.engine.proofs.Sound.{Sound}
 

@@ -28,7 +28,7 @@ use Rattle.engine.specs.Refusals.{by_record}
 use Rattle.engine.specs.Serving.{Served, served, run_ready, machine_of, answered}
 use Rattle.engine.proofs.Admitting.{new_worker, of_admit}
 use Rattle.engine.proofs.Histories.{after_keeps, its_place, its_lies}
-use Rattle.engine.proofs.Places.{set_all, free_at, some_is, none_is}
+use Rattle.engine.proofs.Places.{set_all, free_at, some_is, none_is, worker_by}
 use Rattle.engine.proofs.Results.{OkIs, then_ok, ok_is, required_then}
 use Rattle.engine.proofs.Sound.{Sound, made_sound}
 
@@ -75,12 +75,7 @@ AllFit i = (p : ℕ) → PlaceFits (place_at i.places p)
 
 -- a place by its state has a worker with those registers
 by_state_fits : (state : State) (v w : Worker) → Fits v.registers → worker_of (place_by state v) ≡ Some w → Fits w.registers
-by_state_fits Ready v w fits at = subst (λ w. Fits w.registers) (some_is v w at) fits
-by_state_fits (Held report) v w fits at = subst (λ w. Fits w.registers) (some_is v w at) fits
-
-by_state_worker : (state : State) (w : Worker) → worker_of (place_by state w) ≡ Some w
-by_state_worker Ready w = refl
-by_state_worker (Held report) w = refl
+by_state_fits state v w fits at = subst (λ w. Fits w.registers) (some_is v w (sym (worker_by state v) ∙ at)) fits
 
 module _ (i : Installation) (sound : Sound i) (all : AllFit i) where
   abbrev Fitted : Done → Type 0
@@ -89,7 +84,7 @@ module _ (i : Installation) (sound : Sound i) (all : AllFit i) where
   held_fits : (p : ℕ) (h : Holder) → holder i p ≡ Ok h → Fits h.own.registers
   held_fits p h held =
       let w : Worker = record { span = h.span; registers = h.own.registers } in
-      all p w (ap worker_of (its_place i sound p h held).place_is ∙ by_state_worker h.own.state w)
+      all p w (ap worker_of (its_place i sound p h held).place_is ∙ worker_by h.own.state w)
 
   ask_fitted : (p : ℕ) (what : Request (List ℕ)) → OkIs Fitted (ask i p what)
   ask_fitted p what =

@@ -3,27 +3,22 @@ use Rattle.std.proofs.Common.{ℕ, ◌≡◌, ◌+◌, ◌==◌, true, List, dro
 use Rattle.std.proofs.lemmas.Bool.{cases_lt}
 use Rattle.std.proofs.lemmas.List.{get_or-take, get_or-drop}
 use Rattle.store.specs.Cells.{Cell, cell_at}
-use Rattle.engine.specs.declared.answer.State.{State}
-use Rattle.engine.specs.declared.answer.State.TheVariants.{Ready, Held}
 use Rattle.engine.specs.declared.call.Call.{Call}
 use Rattle.engine.specs.declared.call.Call.TheVariants as call
 use Rattle.engine.specs.declared.call.Request.{Request}
 use Rattle.engine.specs.declared.place.Worker.{Worker}
 use Rattle.engine.specs.Exchanges.{after, is_for}
-use Rattle.engine.specs.Installation.{Installation, Done, holder, made, place_by, worker_of, worker_at, words_in}
+use Rattle.engine.specs.Installation.{Installation, Done, holder, made, worker_of, worker_at, words_in}
 use Rattle.engine.specs.Laws.{Has, OnlyItsCells}
 use Rattle.engine.specs.Performing.{ask, taken, performed}
 use Rattle.engine.specs.Serving.{served}
 use Rattle.engine.proofs.Admitting.{of_admit}
 use Rattle.engine.proofs.Histories.{of_call, its_lies, its_place, as_many}
 use Rattle.engine.proofs.Lawful.{sound_after}
+use Rattle.engine.proofs.Places.{worker_by}
 use Rattle.engine.proofs.Results.{OkIs, then_ok}
 use Rattle.engine.proofs.Rows.{words_above, words_below}
 use Rattle.engine.proofs.Sound.{Sound}
-
-worker_by : (state : State) (w : Worker) → worker_of (place_by state w) ≡ Some w
-worker_by Ready w = refl
-worker_by (Held report) w = refl
 
 module _ (i : Installation) (sound : Sound i) (cell : ℕ) where
   abbrev Stays : Done → Type 0

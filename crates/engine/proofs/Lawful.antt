@@ -11,13 +11,13 @@ use Rattle.engine.specs.declared.call.Request.TheVariants as request
 use Rattle.engine.specs.declared.refusal.Refusal.{Refusal}
 use Rattle.engine.specs.Admission.{share}
 use Rattle.engine.specs.Exchanges.{after}
-use Rattle.engine.specs.Installation.{Installation, holder, made, Done}
+use Rattle.engine.specs.Installation.{Installation, holder, made, Done, span_in}
 use Rattle.engine.specs.Refusals.{refusal_of}
 use Rattle.engine.specs.Laws.{RefusedLeaveAll, RefusedSaveLeavesBuffer, NoCellIsShared, RowKeepsLength, WorkersLieInRow}
 use Rattle.engine.specs.Performing.{ask, taken, refused, request_refused, performed}
 use Rattle.engine.proofs.Admitting.{of_admit}
 use Rattle.engine.proofs.Histories.{of_call, performed_sound, after_sound, its_lies, as_many}
-use Rattle.engine.proofs.Places.{span_in, some_is}
+use Rattle.engine.proofs.Places.{some_is}
 use Rattle.engine.proofs.Results.{OkIs, then_ok, ok_is}
 use Rattle.engine.proofs.Rows.{row_number}
 use Rattle.engine.specs.Own.{Own}

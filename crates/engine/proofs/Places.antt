@@ -12,13 +12,9 @@ use Rattle.engine.specs.declared.place.Span.{Span}
 use Rattle.engine.specs.declared.place.Worker.{Worker}
 use Rattle.engine.specs.declared.refusal.Refusal.TheVariants.{NoSuchPlace}
 use Rattle.store.specs.Cells.{Cell}
-use Rattle.engine.specs.Installation.{Installation, Holder, place_at, place_by, worker_of, holder, if_occupied, words_in}
+use Rattle.engine.specs.Installation.{Installation, Holder, place_at, place_by, worker_of, holder, if_occupied, words_in, span_in}
 use Rattle.engine.specs.Refusals.{require}
 use Rattle.engine.proofs.Results.{OkIs, ok_is, required_then}
-
-abbrev pub span_in : Option Worker → Option Span
-span_in None = None
-span_in (Some w) = Some w.span
 
 abbrev pub span_at : List Place → ℕ → Option Span
 span_at places p = span_in (worker_of (place_at places p))
@@ -61,10 +57,13 @@ some_is x y e = cc
 pub none_is : {X : Type 0} → (x : X) → None ≡ Some x → ⊥
 none_is x e = cc
 
--- a place by its state has its worker's span
+-- a place by its state has its worker, and so its span
+pub worker_by : (state : State) (w : Worker) → worker_of (place_by state w) ≡ Some w
+worker_by state.Ready w = refl
+worker_by (state.Held report) w = refl
+
 pub by_state : (state : State) (w : Worker) → span_in (worker_of (place_by state w)) ≡ Some w.span
-by_state state.Ready w = refl
-by_state (state.Held report) w = refl
+by_state state w = ap span_in (worker_by state w)
 
 and_that : {X E C : Type 0} → (P : X → Type 0) (r : Result X E) → C → OkIs P r → OkIs (λ x. C × P x) r
 and_that P (Ok x) c holds = (c, holds)

@@ -4,11 +4,11 @@ use Rattle.std.proofs.lemmas.List.{length-set}
 use Rattle.store.specs.Cells.{Cell}
 use Rattle.engine.specs.declared.place.Span.{Span}
 use Rattle.engine.specs.Admission.{share, shares, overlaps_any}
-use Rattle.engine.specs.Installation.{Installation, Holder, made, holder, place_at, place_by, worker_of, with_own}
+use Rattle.engine.specs.Installation.{Installation, Holder, made, holder, place_at, place_by, worker_of, with_own, span_in}
 use Rattle.engine.specs.Own.{Own}
 use Rattle.engine.specs.declared.place.Place.TheVariants.{Free, Ready}
 use Rattle.engine.specs.declared.place.Worker.{Worker}
-use Rattle.engine.proofs.Places.{span_in, span_at, free_at, by_state, some_is, fails_at, holder_span, span_then}
+use Rattle.engine.proofs.Places.{span_at, free_at, by_state, some_is, fails_at, holder_span, span_then}
 use Rattle.engine.proofs.Rows.{row_number}
 
 pub record Lies (row : List Cell) (s : Span) : Type 0 where

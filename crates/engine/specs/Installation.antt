@@ -35,6 +35,10 @@ worker_of Free = None
 worker_of (Ready w) = Some w
 worker_of (Held w report) = Some w
 
+abbrev pub span_in : Option Worker → Option Span
+span_in None = None
+span_in (Some w) = Some w.span
+
 abbrev pub worker_at : Installation → ℕ → Option Worker
 worker_at i p = worker_of (place_at i.places p)
 

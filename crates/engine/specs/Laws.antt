@@ -1,5 +1,5 @@
 -- What holds of every call, and after every history of an installation from its making.
-use Rattle.std.specs.Prelude.{◌≡◌, ◌≢◌, ◌↔◌, ℕ, ◌+◌, ◌<◌, ◌≤◌, true, List, length, map, Option, Some, None, Ok, Err}
+use Rattle.std.specs.Prelude.{◌≡◌, ◌≢◌, ◌↔◌, ℕ, ◌+◌, ◌<◌, ◌≤◌, true, List, length, map, Option, Some, Ok, Err}
 use Rattle.store.specs.Cells.{Cell, cell_at}
 use Rattle.store.specs.declared.address.CellAddress.{CellAddress}
 use Rattle.store.specs.declared.fault.Fault.TheVariants.{NoCell}
@@ -14,7 +14,7 @@ use Rattle.engine.specs.declared.call.Request.{Request}
 use Rattle.engine.specs.declared.call.Request.TheVariants as request
 use Rattle.engine.specs.declared.call.Terms.{Terms}
 use Rattle.engine.specs.declared.place.Place.{Place}
-use Rattle.engine.specs.declared.place.Place.TheVariants.{Free, Ready, Held}
+use Rattle.engine.specs.declared.place.Place.TheVariants.{Held}
 use Rattle.engine.specs.declared.place.Span.{Span}
 use Rattle.engine.specs.declared.place.Worker.{Worker}
 use Rattle.engine.specs.declared.refusal.Refusal.{Refusal}
@@ -25,7 +25,7 @@ use Rattle.processor.specs.Run.{report_of}
 use Rattle.engine.specs.Exchanges.{after, is_for}
 use Rattle.engine.specs.FixedAddress.{cause_numbered}
 use Rattle.engine.specs.Refusals.{refusal_of}
-use Rattle.engine.specs.Installation.{Installation, made, place_at, worker_at}
+use Rattle.engine.specs.Installation.{Installation, made, place_at, worker_at, span_in, worker_of}
 use Rattle.engine.specs.Performing.{refused, performed}
 
 -- a call whose answer tells a refusal leaves the installation as it was, and answers no more than the refusal
@@ -61,9 +61,7 @@ OnlyItsCells = (row : List Cell) (calls : List (Call (List ℕ))) (c : Call (Lis
 
 -- the span of a place's worker
 abbrev pub span_of_place : Place → Option Span
-span_of_place Free = None
-span_of_place (Ready w) = Some w.span
-span_of_place (Held w report) = Some w.span
+span_of_place place = span_in (worker_of place)
 
 -- an admit is answered alike wherever there are as many cells and the places have the same spans, whatever else is different
 abbrev pub AdmitsBySpans : Type 0
