@@ -4,6 +4,7 @@
 mod fault;
 mod record;
 mod registers;
+mod setting;
 
 pub use fault::{BufferTooShort, RecordFault};
 pub use registers::Registers;

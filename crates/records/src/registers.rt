@@ -1,6 +1,6 @@
 // The registers of a worker.
-ghost use Rattle.std.specs.Prelude.{◌≡◌, ◌%◌, ◌^◌};
-ghost use Rattle.records.specs.Registers.{starting_at};
+ghost use Rattle.std.specs.Prelude.{◌≡◌, ◌%◌, ◌^◌, ◌<◌};
+ghost use Rattle.records.specs.Registers.{Fits, index, starting_at};
 
 use std::marker::Model;
 use words::{Word, word_bits};
@@ -37,5 +37,35 @@ impl Registers {
             b: [0; 7],
             p: entry % (1 << 17),
         }
+    }
+
+    pub fn a(&self) -> Word
+        ensures { result ≡ self.now.a }
+    {
+        self.a
+    }
+
+    pub fn q(&self) -> Word
+        ensures { result ≡ self.now.q }
+    {
+        self.q
+    }
+
+    // Bj; B0 is 0, and so is any that there is not.
+    pub fn b(&self, j: u32) -> u32
+        ensures value { result ≡ index self.now j }
+        ensures small { result < 2 ^ 15 }
+    {
+        match j {
+            1..=7 => self.b[j as usize - 1],
+            _ => 0,
+        }
+    }
+
+    pub fn p(&self) -> u32
+        ensures value { result ≡ self.now.p }
+        ensures fits { Fits self.now }
+    {
+        self.p
     }
 }

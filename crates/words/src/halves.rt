@@ -45,3 +45,12 @@ impl Word {
         HalfWord::new(self.get())
     }
 }
+
+impl HalfWord {
+    // The word that has zeros above it.
+    pub fn with_zeros(self) -> Word
+        ensures { result ≡ self }
+    {
+        join(HalfWord::new(0), self)
+    }
+}
