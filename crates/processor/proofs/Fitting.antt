@@ -1,17 +1,19 @@
 -- A run keeps the registers as wide as they are.
-use Rattle.std.proofs.Common.{ℕ, zero, suc, ◌^◌, ◌<◌, ◌≤◌, nat_lt, arith, Result, Ok, Err}
+use Rattle.std.proofs.Common.{ℕ, zero, suc, subst, ap, ◌≡◌, ◌%◌, ◌^◌, ◌<◌, ◌≤◌, nat_lt, arith, Result, Ok, Err}
 use Rattle.std.proofs.lemmas.Bool.{cond_both, ltb-true}
-use Rattle.records.specs.Registers.{Fits}
+use Rattle.records.specs.Registers.{Fits, with_p}
 use Rattle.processor.specs.declared.report.ReferenceKind.{ReferenceKind}
 use Rattle.processor.specs.declared.report.ReferenceKind.TheVariants.{Fetch, Read, Write}
 use Rattle.processor.specs.declared.report.Report.{Report}
 use Rattle.processor.specs.declared.report.Report.TheVariants.{IllegalInstruction, Protection, Parity, ExecutiveReturn, TestAndSet}
-use Rattle.processor.specs.Effects.{Effect, Next, onward, skipping, jumping, next_p, puts_tried}
+use Rattle.processor.specs.declared.effect.Next.{Next}
+use Rattle.processor.specs.declared.effect.Next.TheVariants.{Onward, Skipping, Jumping}
+use Rattle.processor.specs.Effects.{Effect, next_p, puts_tried}
 use Rattle.processor.specs.Fields.{fields_of}
 use Rattle.processor.specs.Machine.{Machine}
 use Rattle.processor.specs.Reports.{p_after, p_after_protection}
 use Rattle.processor.specs.Run.{Outcome, run, run_on}
-use Rattle.processor.specs.Step.{Stepped, completed, interrupted, instruction_effect, step, stepped, tried}
+use Rattle.processor.specs.Step.{Stepped, completed, interrupted, instruction_effect, machine_after, step, stepped, tried}
 use Rattle.processor.specs.Then.{◌>>=◌}
 use Rattle.processor.proofs.Chosen.{then_all, then_any}
 use Rattle.processor.proofs.EffectsFit.{Near, EffectFits, ResultFits, instruction_fits}
@@ -19,9 +21,9 @@ use Rattle.processor.proofs.Registered.{with_other_p}
 
 -- P after an effect, and after an interrupt
 p_after_effect : (next : Next) (p : ℕ) → Near next → p < 2 ^ 15 → next_p next p < 2 ^ 17
-p_after_effect onward p near low = omega arith
-p_after_effect skipping p near low = omega arith
-p_after_effect (jumping t) p near low = omega arith
+p_after_effect Onward p near low = omega arith
+p_after_effect Skipping p near low = omega arith
+p_after_effect (Jumping t) p near low = omega arith
 
 p_after_failed : (kind : ReferenceKind) (p : ℕ) → p < 2 ^ 15 → p_after_protection kind p < 2 ^ 17
 p_after_failed Fetch p low = omega arith
@@ -47,12 +49,12 @@ StepFits (interrupted report after) = MachineFits after
 abbrev with_fetched : Machine → ℕ → Result Effect Report
 with_fetched m w = do
   effect ← instruction_effect m (fields_of w)
-  done ← puts_tried m effect.puts
+  done ← puts_tried m.length m.words effect.puts
   Ok effect
 
 module _ (m : Machine) (sound : MachineFits m) where
   fetched_fits : (w : ℕ) → ResultFits (with_fetched m w)
-  fetched_fits w = then_all EffectFits EffectFits (instruction_effect m (fields_of w)) _ (instruction_fits m (fields_of w) sound.1) (λ e good. then_any EffectFits (puts_tried m e.puts) _ (λ done. good))
+  fetched_fits w = then_all EffectFits EffectFits (instruction_effect m (fields_of w)) _ (instruction_fits m (fields_of w) sound.1) (λ e good. then_any EffectFits (puts_tried m.length m.words e.puts) _ (λ done. good))
 
   stepped_fits : (r : Result Effect Report) → m.registers.p < 2 ^ 15 → ResultFits r → StepFits (stepped m r)
   stepped_fits (Ok e) low good = (sound.0, with_other_p e.registers good.0 _ (p_after_effect e.next m.registers.p good.1 low))
@@ -66,6 +68,29 @@ module _ (m : Machine) (sound : MachineFits m) where
       cond_both (nat_lt p m.length) _ _ (λ r. StepFits (stepped m (r >>= with_fetched m)))
       (λ within. stepped_fits _ (omega (arith, ltb-true p m.length within)) (then_any EffectFits _ _ fetched_fits))
       (λ past. sound)
+
+-- what becomes of P fits its register
+module _ (m : Machine) (short : m.length ≤ 32768) (fits : Fits m.registers) where
+  registers_after : (s : Stepped) → StepFits s → Fits (machine_after s).registers
+  registers_after (completed after) sound = sound.1
+  registers_after (interrupted report after) sound = sound.1
+
+  pub step_registers_fit : Fits (machine_after (step m)).registers
+  step_registers_fit = registers_after (step m) (step_fits m (short, fits))
+
+  -- by what was tried
+  fit_by : (r : Result Effect Report) → tried m ≡ r → Fits (machine_after (stepped m r)).registers
+  unfolding step
+  fit_by r is = subst (λ r. Fits (machine_after (stepped m r)).registers) is step_registers_fit
+
+  -- so the registers after a step are these, with P in 17 bits
+  pub registers_if_completed : (e : Effect) → tried m ≡ Ok e → with_p e.registers (next_p e.next m.registers.p % 2 ^ 17) ≡ (machine_after (step m)).registers
+  unfolding step
+  registers_if_completed e is = rw is (ap (with_p e.registers) (omega (arith, (fit_by (Ok e) is).4)))
+
+  pub registers_if_interrupted : (report : Report) → tried m ≡ Err report → with_p m.registers (p_after report m.registers.p % 2 ^ 17) ≡ (machine_after (step m)).registers
+  unfolding step
+  registers_if_interrupted report is = rw is (ap (with_p m.registers) (omega (arith, (fit_by (Err report) is).4)))
 
 run_on_fits : (s : Stepped) (rest : Machine → Outcome) → ((n : Machine) → MachineFits n → Fits (rest n).machine.registers) → StepFits s → Fits (run_on s rest).machine.registers
 run_on_fits (completed after) rest all sound = all after sound

@@ -8,7 +8,7 @@ use Rattle.words.proofs.Widths.{joined_fit, extended_fit}
 use Rattle.records.specs.Registers.{Fits}
 use Rattle.processor.specs.declared.report.Reference.{Reference}
 use Rattle.processor.specs.declared.report.Report.{Report}
-use Rattle.processor.specs.Fields.{Fields}
+use Rattle.processor.specs.declared.fields.Fields.{Fields}
 use Rattle.processor.specs.Machine.{Machine}
 use Rattle.processor.specs.Operands.{effective, lower_read, upper_read, extension, operand}
 use Rattle.processor.specs.References.{read, parity_tried}
@@ -45,6 +45,6 @@ extension_small half = then_any Small half _ (λ x. extended_fit 15 x)
 
 pub operand_small : (m : Machine) (i : Fields) → Fits m.registers → IfOk (operand m i) Small
 operand_small m i fits =
-    let y = effective m i in
+    let y = effective m.registers i in
     of_eight (λ (x : Result ℕ Report). IfOk x Small) i.k _ _ _ _ _ _ _ _
     (omega arith) (lower_small m y) (upper_small m y) (read_small m y) (extended_fit 15 y) (extension_small (lower_read m y)) (extension_small (upper_read m y)) fits.0

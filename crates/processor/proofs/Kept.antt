@@ -3,14 +3,16 @@ use Rattle.std.proofs.Common.{ℕ, zero, suc, ◌≡◌, List, [], ◌∷◌, le
 use Rattle.std.proofs.lemmas.List.{length-set}
 use Rattle.store.specs.Cells.{Cell}
 use Rattle.processor.specs.declared.report.Report.{Report}
-use Rattle.processor.specs.Effects.{Effect, Put, whole, half, put_done, puts_done}
+use Rattle.processor.specs.declared.effect.Put.{Put}
+use Rattle.processor.specs.declared.effect.Put.TheVariants as put
+use Rattle.processor.specs.Effects.{Effect, put_done, puts_done}
 use Rattle.processor.specs.Machine.{Machine}
 use Rattle.processor.specs.Run.{run, run_on}
 use Rattle.processor.specs.Step.{Stepped, completed, interrupted, step, stepped, tried}
 
 put_kept : (words : List Cell) (p : Put) → length (put_done words p) ≡ length words
-put_kept words (whole r w) = length-set words _ _
-put_kept words (half r h x) = length-set words _ _
+put_kept words (put.Whole r w) = length-set words _ _
+put_kept words (put.Half r h x) = length-set words _ _
 
 pub puts_kept : (words : List Cell) (ps : List Put) → length (puts_done words ps) ≡ length words
 puts_kept words [] = refl

@@ -1,3 +1,4 @@
+mod Between
 mod Chosen
 mod EffectsFit
 pub mod Failed

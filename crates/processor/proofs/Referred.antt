@@ -9,8 +9,10 @@ use Rattle.processor.specs.declared.report.Reference.{Reference}
 use Rattle.processor.specs.declared.report.ReferenceKind.{ReferenceKind}
 use Rattle.processor.specs.declared.report.ReferenceKind.TheVariants.{Fetch, Read, Write}
 use Rattle.processor.specs.declared.report.Report.{Report}
-use Rattle.processor.specs.Effects.{Put, whole, half, put_tried, puts_tried}
-use Rattle.processor.specs.Fields.{Fields}
+use Rattle.processor.specs.declared.effect.Put.{Put}
+use Rattle.processor.specs.declared.effect.Put.TheVariants as put
+use Rattle.processor.specs.Effects.{put_tried, puts_tried}
+use Rattle.processor.specs.declared.fields.Fields.{Fields}
 use Rattle.processor.specs.Machine.{Machine}
 use Rattle.processor.specs.Operands.{effective, lower_read, upper_read, extension, operand}
 use Rattle.processor.specs.References.{fetch, parity_tried, read, refer}
@@ -40,7 +42,7 @@ abbrev pub Whole : Machine → Type 0
 Whole m = m.length ≤ length m.words
 
 module _ (m : Machine) (all : Whole m) where
-  refer_of_cell : {X : Type 0} → (kind : ReferenceKind) (r : ℕ) (answer : Result X Fault) → (r < length m.words → FaultOfCell answer) → ReportOfCell (refer m kind r answer)
+  refer_of_cell : {X : Type 0} → (kind : ReferenceKind) (r : ℕ) (answer : Result X Fault) → (r < length m.words → FaultOfCell answer) → ReportOfCell (refer m.length kind r answer)
   refer_of_cell {X} kind r answer there =
       cond_both (nat_lt r m.length) _ _ (λ (x : Result X Report). ReportOfCell x)
       (λ below. parity_of_cell _ answer (there (omega (arith, all, ltb-true r m.length below))))
@@ -53,13 +55,13 @@ module _ (m : Machine) (all : Whole m) where
   read_of_cell r = refer_of_cell Read r (fetched m.words r) (fetched_of_cell m.words r)
 
   -- what is put
-  put_of_cell : (p : Put) → ReportOfCell (put_tried m p)
-  put_of_cell (whole r w) = refer_of_cell Write r (put_whole_answer m.words r) (put_whole_of_cell m.words r)
-  put_of_cell (half r h x) = refer_of_cell Write r (put_half_answer m.words r h) (λ below. put_half_of_cell m.words r below h)
+  put_of_cell : (p : Put) → ReportOfCell (put_tried m.length m.words p)
+  put_of_cell (put.Whole r w) = refer_of_cell Write r.0 (put_whole_answer m.words r.0) (put_whole_of_cell m.words r.0)
+  put_of_cell (put.Half r h x) = refer_of_cell Write r.0 (put_half_answer m.words r.0 h) (λ below. put_half_of_cell m.words r.0 below h)
 
-  pub puts_of_cell : (ps : List Put) → ReportOfCell (puts_tried m ps)
+  pub puts_of_cell : (ps : List Put) → ReportOfCell (puts_tried m.length m.words ps)
   puts_of_cell [] = tt
-  puts_of_cell (p ∷ ps) = then_err OfCell (put_tried m p) _ (put_of_cell p) (λ done _. puts_of_cell ps)
+  puts_of_cell (p ∷ ps) = then_err OfCell (put_tried m.length m.words p) _ (put_of_cell p) (λ done _. puts_of_cell ps)
 
   -- the operand
   lower_of_cell : (r : ℕ) → ReportOfCell (lower_read m r)
@@ -73,6 +75,6 @@ module _ (m : Machine) (all : Whole m) where
 
   pub operand_of_cell : (i : Fields) → ReportOfCell (operand m i)
   operand_of_cell i =
-      let y = effective m i in
+      let y = effective m.registers i in
       of_eight (λ (x : Result ℕ Report). ReportOfCell x) i.k _ _ _ _ _ _ _ _
       tt (lower_of_cell y) (upper_of_cell y) (read_of_cell y) tt (extension_of_cell (lower_read m y) (lower_of_cell y)) (extension_of_cell (upper_read m y) (upper_of_cell y)) tt

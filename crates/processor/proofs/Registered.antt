@@ -3,9 +3,7 @@ use Rattle.std.proofs.Common.{ℕ, zero, suc, ◌-◌, ◌^◌, ◌<◌, ◌==�
 use Rattle.std.proofs.lemmas.List.{length-set}
 use Rattle.std.specs.List.{AllByRecursion}
 use Rattle.std.specs.Prelude.{slice_index, slice_set}
-use Rattle.records.specs.Registers.{Registers, Fits}
-use Rattle.processor.specs.Machine.{index, with_index}
-use Rattle.processor.specs.Step.{with_p}
+use Rattle.records.specs.Registers.{Registers, Fits, index, with_index, with_p}
 use Rattle.processor.proofs.Chosen.{of_two}
 
 -- an element of a list, and the list with another one

@@ -8,7 +8,8 @@ use Rattle.processor.specs.declared.outcome.Ending.{Ending}
 use Rattle.processor.specs.declared.outcome.Ending.TheVariants.{Spent, Interrupted}
 use Rattle.processor.specs.declared.report.Report.{Report}
 use Rattle.processor.specs.Effects.{Effect, puts_tried}
-use Rattle.processor.specs.Fields.{Fields, fields_of}
+use Rattle.processor.specs.declared.fields.Fields.{Fields}
+use Rattle.processor.specs.Fields.{fields_of}
 use Rattle.processor.specs.Jumps.{target}
 use Rattle.processor.specs.Machine.{Machine}
 use Rattle.processor.specs.Operands.{effective, operand}
@@ -25,7 +26,7 @@ use Rattle.processor.proofs.Referred.{OfCell, Whole, ReportOfCell, no_fault, fet
 
 -- no instruction's report tells it
 module _ (m : Machine) (all : Whole m) where
-  count_of_cell : (y : ℕ) → ReportOfCell (count_of m y)
+  count_of_cell : (y : ℕ) → ReportOfCell (count_of m.registers y)
   count_of_cell y = of_two (λ (x : Result ℕ Report). ReportOfCell x) (nat_lt (y % 64) 60) _ _ tt no_fault
 
   target_of_cell : (i : Fields) → ReportOfCell (target m i)
@@ -64,7 +65,7 @@ module _ (m : Machine) (all : Whole m) where
   operation_of_cell op.SkipOnB i = search (then_err, target_of_cell)
   operation_of_cell op.JumpOnB i = search (then_err, target_of_cell)
   operation_of_cell op.ExecutiveReturn i = no_fault
-  operation_of_cell op.TestAndSet i = then_err OfCell (read m (effective m i)) _ (read_of_cell m all (effective m i)) (λ w _. of_two EffectOfCell (bit_at w 14 == 1) _ _ no_fault tt)
+  operation_of_cell op.TestAndSet i = then_err OfCell (read m (effective m.registers i)) _ (read_of_cell m all (effective m.registers i)) (λ w _. of_two EffectOfCell (bit_at w 14 == 1) _ _ no_fault tt)
 
   if_operation_of_cell : (operation : Option Operation) (i : Fields) → ReportOfCell (effect_if operation m i)
   if_operation_of_cell (Some operation) i = operation_of_cell operation i
@@ -79,7 +80,7 @@ module _ (m : Machine) (all : Whole m) where
   tried_of_cell =
       then_err OfCell (fetch m m.registers.p) _ (fetch_of_cell m all m.registers.p) (λ w _.
       then_err OfCell (instruction_effect m (fields_of w)) _ (instruction_of_cell (fields_of w)) (λ e _.
-      then_err OfCell (puts_tried m e.puts) _ (puts_of_cell m all e.puts) (λ done _. tt)))
+      then_err OfCell (puts_tried m.length m.words e.puts) _ (puts_of_cell m all e.puts) (λ done _. tt)))
 
 -- nor does a step's; and where it is completed, the machine after it has its words
 abbrev StepOfCell : Stepped → Type 0

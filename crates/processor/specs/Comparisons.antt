@@ -6,7 +6,7 @@ use Rattle.words.specs.Order.{less}
 use Rattle.words.specs.Sums.{difference}
 use Rattle.processor.specs.declared.report.Report.{Report}
 use Rattle.processor.specs.Effects.{Effect, leaving, skip_if}
-use Rattle.processor.specs.Fields.{Fields}
+use Rattle.processor.specs.declared.fields.Fields.{Fields}
 use Rattle.processor.specs.Machine.{Machine}
 use Rattle.processor.specs.Operands.{effective, further, operand}
 use Rattle.processor.specs.References.{read}
@@ -17,14 +17,19 @@ use Rattle.processor.specs.Then.{◌>>=◌}
 abbrev pub compare_masked : Machine → Fields → Result Effect Report
 compare_masked m i = do
   y ← operand m i
-  let r = m.registers in Ok (leaving r (skip_if (skip_met i.j (record r { a = difference r.a (product y r.q) }))))
+  let r = m.registers in Ok (leaving r (skip_if (skip_met i.j (difference r.a (product y r.q)) r.q)))
 
 -- a skip by a test on A over Q and two words, the first over the second
+abbrev pub double_read : Machine → Fields → Result ℕ Report
+double_read m i = do
+  first ← read m (effective m.registers i)
+  second ← read m (further m.registers i 1)
+  Ok (over first second)
+
 abbrev pub compare_aq : (ℕ → ℕ → Bool) → Machine → Fields → Result Effect Report
 compare_aq test m i = do
-  first ← read m (effective m i)
-  second ← read m (further m i 1)
-  Ok (leaving m.registers (skip_if (test (over m.registers.a m.registers.q) (over first second))))
+  other ← double_read m i
+  Ok (leaving m.registers (skip_if (test (over m.registers.a m.registers.q) other)))
 
 -- 77/23: all 60 bits are equal
 abbrev pub compare_aq_equal : Machine → Fields → Result Effect Report
@@ -37,7 +42,7 @@ compare_aq_less = compare_aq less
 -- a skip by a test on A and the word at ȳ, where Q has ones
 abbrev pub compare_under_q : (ℕ → ℕ → ℕ → Bool) → Machine → Fields → Result Effect Report
 compare_under_q test m i = do
-  w ← read m (effective m i)
+  w ← read m (effective m.registers i)
   Ok (leaving m.registers (skip_if (test m.registers.q m.registers.a w)))
 
 -- 77/53: they are equal there

@@ -7,7 +7,7 @@ use Rattle.processor.specs.declared.operation.Computation.{Computation}
 use Rattle.processor.specs.declared.operation.Computation.TheVariants as computation
 use Rattle.processor.specs.declared.report.Report.{Report}
 use Rattle.processor.specs.Effects.{Effect, leaving, skip_if, stored}
-use Rattle.processor.specs.Fields.{Fields}
+use Rattle.processor.specs.declared.fields.Fields.{Fields}
 use Rattle.processor.specs.Machine.{Machine}
 use Rattle.processor.specs.Operands.{effective, operand}
 use Rattle.processor.specs.Skips.{computed_skip_met}
@@ -34,10 +34,10 @@ with_computed c r y = record r { a = computed c r.a r.q y }
 abbrev pub compute : Computation → Machine → Fields → Result Effect Report
 compute c m i = do
   y ← operand m i
-  let r = with_computed c m.registers y in Ok (leaving r (skip_if (computed_skip_met c i.j r)))
+  let r = with_computed c m.registers y in Ok (leaving r (skip_if (computed_skip_met c i.j r.a r.q)))
 
 -- 24, 25, 36, 37, 44 to 46, 54 to 57: the same, and the new A is stored by k where Y was read
 abbrev pub replace : Computation → Machine → Fields → Result Effect Report
 replace c m i = do
   y ← operand m i
-  let r = with_computed c m.registers y in Ok (record { registers = r; puts = stored i.k (effective m i) r.a r.a; next = skip_if (computed_skip_met c i.j r) })
+  let r = with_computed c m.registers y in Ok (record { registers = r; puts = stored i.k (effective m.registers i) r.a r.a; next = skip_if (computed_skip_met c i.j r.a r.q) })

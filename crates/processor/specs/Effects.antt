@@ -6,23 +6,23 @@ use Rattle.store.specs.declared.half.Half.{Half}
 use Rattle.store.specs.declared.half.Half.TheVariants.{Upper, Lower}
 use Rattle.store.specs.Functions.{put_whole_answer, put_half_answer, whole_put, half_put}
 use Rattle.records.specs.Registers.{Registers}
+use Rattle.processor.specs.declared.effect.Next.{Next}
+use Rattle.processor.specs.declared.effect.Next.TheVariants.{Onward, Skipping, Jumping}
+use Rattle.processor.specs.declared.effect.Put.{Put}
+use Rattle.processor.specs.declared.effect.Put.TheVariants as put
 use Rattle.processor.specs.declared.report.ReferenceKind.TheVariants.{Write}
 use Rattle.processor.specs.declared.report.Report.{Report}
 use Rattle.processor.specs.Digits.{by_digit}
-use Rattle.processor.specs.Machine.{Machine}
 use Rattle.processor.specs.References.{refer}
+use Rattle.processor.specs.Reports.{relative}
 use Rattle.processor.specs.Then.{◌>>=◌}
 
--- a word, or a number in one half of a word, at a relative address
-pub data Put : Type 0 where
-  whole : ℕ → ℕ → Put
-  half : ℕ → Half → ℕ → Put
+-- a word, and a number in one half of a word, put at an address
+abbrev pub whole : ℕ → ℕ → Put
+whole r w = put.Whole (relative r) w
 
--- the next P: P + 1, P + 2, or the target of a jump
-pub data Next : Type 0 where
-  onward : Next
-  skipping : Next
-  jumping : ℕ → Next
+abbrev pub half : ℕ → Half → ℕ → Put
+half r h x = put.Half (relative r) h x
 
 -- the registers' own P counts for nothing: `next` decides
 pub record Effect : Type 0 where
@@ -31,34 +31,34 @@ pub record Effect : Type 0 where
   pub next : Next
 
 abbrev pub next_p : Next → ℕ → ℕ
-next_p onward p = p + 1
-next_p skipping p = p + 2
-next_p (jumping target) p = target
+next_p Onward p = p + 1
+next_p Skipping p = p + 2
+next_p (Jumping target) p = target
 
 -- P + 2 if a test holds, and otherwise P + 1
 abbrev pub skip_if : Bool → Next
-skip_if test = if test then skipping else onward
+skip_if test = if test then Skipping else Onward
 
 -- these registers, nothing put
 abbrev pub leaving : Registers → Next → Effect
 leaving r next = record { registers = r; puts = []; next = next }
 
 -- a put is tried as a reference that writes
-abbrev pub put_tried : Machine → Put → Result (Unit {0}) Report
-put_tried m (whole r w) = refer m Write r (put_whole_answer m.words r)
-put_tried m (half r h x) = refer m Write r (put_half_answer m.words r h)
+abbrev pub put_tried : (length : ℕ) → List Cell → Put → Result (Unit {0}) Report
+put_tried n words (put.Whole r w) = refer n Write r.0 (put_whole_answer words r.0)
+put_tried n words (put.Half r h x) = refer n Write r.0 (put_half_answer words r.0 h)
 
 -- all of them, in order
-abbrev pub puts_tried : Machine → List Put → Result (Unit {0}) Report
-puts_tried m [] = Ok tt
-puts_tried m (p ∷ ps) = do
-  done ← put_tried m p
-  puts_tried m ps
+abbrev pub puts_tried : (length : ℕ) → List Cell → List Put → Result (Unit {0}) Report
+puts_tried n words [] = Ok tt
+puts_tried n words (p ∷ ps) = do
+  done ← put_tried n words p
+  puts_tried n words ps
 
 -- the words with one put done
 abbrev pub put_done : List Cell → Put → List Cell
-put_done words (whole r w) = whole_put words r w
-put_done words (half r h x) = half_put words r h x
+put_done words (put.Whole r w) = whole_put words r.0 w
+put_done words (put.Half r h x) = half_put words r.0 h x
 
 -- and with all of them done, in order
 abbrev pub puts_done : List Cell → List Put → List Cell

@@ -5,11 +5,14 @@ pub mod Effects
 pub mod Executive
 pub mod Fields
 pub mod Jumps
+pub mod Limits
 pub mod Machine
 pub mod Operands
 pub mod References
 pub mod Repertoire
+pub mod Reporting
 pub mod Reports
+pub mod Results
 pub mod Run
 pub mod Shifts
 pub mod Skips

@@ -2,20 +2,21 @@
 use Rattle.std.specs.Prelude.{ℕ, ◌+◌, ◌%◌, ◌^◌, Result, Ok}
 use Rattle.words.specs.Words.{upper_half, lower_half}
 use Rattle.words.specs.Extension.{extended}
+use Rattle.records.specs.Registers.{Registers, index}
 use Rattle.processor.specs.declared.report.Report.{Report}
 use Rattle.processor.specs.Digits.{by_digit}
-use Rattle.processor.specs.Fields.{Fields}
-use Rattle.processor.specs.Machine.{Machine, index}
+use Rattle.processor.specs.declared.fields.Fields.{Fields}
+use Rattle.processor.specs.Machine.{Machine}
 use Rattle.processor.specs.References.{read}
 use Rattle.processor.specs.Then.{◌>>=◌}
 
 -- ȳ: y and Bb, modulo 32,768
-abbrev pub effective : Machine → Fields → ℕ
-effective m i = (i.y + index m.registers i.b) % 2 ^ 15
+abbrev pub effective : Registers → Fields → ℕ
+effective r i = (i.y + index r i.b) % 2 ^ 15
 
 -- the address n words further on, modulo 32,768
-abbrev pub further : Machine → Fields → ℕ → ℕ
-further m i n = (effective m i + n) % 2 ^ 15
+abbrev pub further : Registers → Fields → ℕ → ℕ
+further r i n = (effective r i + n) % 2 ^ 15
 
 -- the halves of the word at ȳ; its whole cell is read
 abbrev pub lower_read : Machine → ℕ → Result ℕ Report
@@ -35,7 +36,7 @@ extension half = do
 
 -- Y by k: ȳ itself; the lower half, the upper half of the word at ȳ; that word; the first three again with bit 14 copied upwards; A
 abbrev pub operand : Machine → Fields → Result ℕ Report
-operand m i = let at = effective m i in by_digit i.k
+operand m i = let at = effective m.registers i in by_digit i.k
     (Ok at)
     (lower_read m at)
     (upper_read m at)

@@ -15,15 +15,15 @@ abbrev pub parity_tried : {X : Type 0} → Reference → Result X Fault → Resu
 parity_tried reference (Ok x) = Ok x
 parity_tried reference (Err fault) = Err (Parity reference fault)
 
--- a reference to a word: past the length there is none
-abbrev pub refer : {X : Type 0} → Machine → ReferenceKind → ℕ → Result X Fault → Result X Report
-refer m kind r answer =
+-- a reference to one of so many words: past them there is none
+abbrev pub refer : {X : Type 0} → (length : ℕ) → ReferenceKind → ℕ → Result X Fault → Result X Report
+refer n kind r answer =
     let reference : Reference = record { kind = kind; address = relative r } in
-    if nat_lt r m.length then parity_tried reference answer else Err (Protection reference)
+    if nat_lt r n then parity_tried reference answer else Err (Protection reference)
 
 -- the word at a relative address, as the next instruction and as what an instruction reads
 abbrev pub fetch : Machine → ℕ → Result ℕ Report
-fetch m r = refer m Fetch r (fetched m.words r)
+fetch m r = refer m.length Fetch r (fetched m.words r)
 
 abbrev pub read : Machine → ℕ → Result ℕ Report
-read m r = refer m Read r (fetched m.words r)
+read m r = refer m.length Read r (fetched m.words r)

@@ -2,11 +2,26 @@
 #![tactic(auto)]
 
 mod address;
+mod comparisons;
+mod computations;
+mod decode;
+mod effect;
+mod executive;
+mod fields;
+mod instruction;
+mod jumps;
+mod limits;
+mod operand;
 mod operation;
 mod outcome;
+mod references;
 mod report;
+mod shifts;
+mod skips;
+mod transfers;
 
 pub use address::RelativeAddress;
+pub use limits::{Limits, MOST_WORDS};
 pub use operation::{Computation, Operation, Shifted};
 pub use outcome::{Ending, Ran};
 pub use report::{Cause, Reference, ReferenceKind, Report};

@@ -1,0 +1,39 @@
+-- Where a worker's words lie: its limits, and the words between them.
+use Rattle.std.specs.Prelude.{◌≡◌, ℕ, ◌+◌, ◌≤◌, List, ◌++◌, take, drop}
+use Rattle.store.specs.Cells.{Cell, most_cells}
+use Rattle.records.specs.Registers.{Registers}
+use Rattle.processor.specs.Machine.{Machine}
+
+-- so many cells from the lower limit on
+pub record Limits : Type 0 where
+  pub lower : ℕ
+  pub length : ℕ
+
+-- the most words that a worker has
+abbrev pub most_words : ℕ
+most_words = 32768
+
+abbrev pub Bounded : Limits → Type 0
+Bounded l = (l.length ≤ most_words) × (l.lower + l.length ≤ most_cells)
+
+-- the words of so many cells of a row, from a lower limit on
+abbrev pub words_in : List Cell → (lower length : ℕ) → List Cell
+words_in row lower n = take n (drop lower row)
+
+-- the row with other words there
+abbrev pub row_with : List Cell → (lower length : ℕ) → List Cell → List Cell
+row_with row lower n words = take lower row ++ words ++ drop (lower + n) row
+
+-- the words between limits
+abbrev pub between : List Cell → Limits → List Cell
+between row l = words_in row l.lower l.length
+
+-- the machine of the worker that has these limits and registers
+abbrev pub machine_in : List Cell → Limits → Registers → Machine
+machine_in row l r = record { length = l.length; registers = r; words = between row l }
+
+-- what a row becomes if a worker's words become others: these lie between its limits, and the cells below and above are as they were
+pub record Becomes (row : List Cell) (l : Limits) (words : List Cell) (after : List Cell) : Type 0 where
+  pub there : between after l ≡ words
+  pub below : take l.lower after ≡ take l.lower row
+  pub above : drop (l.lower + l.length) after ≡ drop (l.lower + l.length) row

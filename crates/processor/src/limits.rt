@@ -1,0 +1,59 @@
+// A worker's limits: where its words lie.
+ghost use Rattle.std.specs.Prelude.{◌≡◌, ◌+◌, ◌&&◌, ◌<◌, nat_le, nat_lt, IfOk, Ok, Err, Some, None, if◌then◌else◌};
+ghost use Rattle.store.specs.Cells.{most_cells};
+ghost use Rattle.processor.specs.Limits.{Bounded, most_words};
+
+use super::RelativeAddress;
+use super::references::ReferenceFault;
+use std::marker::Model;
+use store::{CellAddress, MOST_CELLS};
+
+// The most words that a worker has.
+pub const MOST_WORDS: u32 = 32_768;
+
+// So many cells from the lower limit on: at most 32,768, and none past the 131,072 that a store can have.
+#[derive(Clone, Copy, Debug, PartialEq, Eq)]
+pub struct Limits {
+    lower: u32,
+    length: u32,
+}
+
+impl Model for Limits {
+    ghost use Rattle.processor.specs.Limits.{Limits, Bounded};
+
+    ghost Value = { Limits };
+
+    ghost view = { λ l. record { lower = l.lower; length = l.length } };
+
+    ghost invariant = { λ l. Bounded (record { lower = l.lower; length = l.length }) };
+
+    ghost inverse = { λ v. record { lower = v.lower; length = v.length } };
+}
+
+impl Limits {
+    // These limits, if there can be such.
+    pub fn new(lower: CellAddress, length: u32) -> Option<Limits>
+        ensures { result ≡ (if nat_le length most_words && nat_le (lower.0 + length) most_cells then Some (record { lower = lower.0; length = length }) else None) }
+    {
+        if length > MOST_WORDS || lower.0 > MOST_CELLS - length {
+            return None;
+        }
+        Some(Limits {
+            lower: lower.0,
+            length,
+        })
+    }
+
+    // The limits check, which alone makes a cell's address of a relative one.
+    pub(crate) fn cell(self, address: RelativeAddress) -> Result<CellAddress, ReferenceFault>
+        ensures value { result ≡ (if nat_lt address.0 self.length then Ok (record { 0 = self.lower + address.0 }) else Err ReferenceFault.Protection) }
+        ensures bounded { Bounded self }
+        ensures within { IfOk result (λ cell. (address.0 < self.length) × (cell.0 ≡ self.lower + address.0)) }
+    {
+        if address.0 < self.length {
+            Ok(CellAddress(self.lower + address.0))
+        } else {
+            Err(ReferenceFault::Protection)
+        }
+    }
+}

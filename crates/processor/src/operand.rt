@@ -1,0 +1,55 @@
+// The effective address and the operand of an instruction.
+ghost use Rattle.std.specs.Prelude.{◌≡◌};
+ghost use Rattle.processor.specs.Limits.{machine_in};
+ghost use Rattle.processor.specs.Operands.{effective, further, operand};
+ghost use Rattle.processor.specs.Reports.{relative};
+
+use super::fields::Fields;
+use super::references::Words;
+use super::{RelativeAddress, Report};
+use records::Registers;
+use store::Store;
+use words::{HalfWord, Word, half_bits};
+
+impl Fields {
+    // The effective address ȳ as a number: y and Bb, modulo 32,768.
+    fn effective_half(&self, registers: &Registers) -> HalfWord
+        ensures { result ≡ effective registers.now self.now }
+    {
+        half_bits(self.y.get() + registers.b(self.b.into()))
+    }
+
+    pub(crate) fn effective(&self, registers: &Registers) -> RelativeAddress
+        ensures { result ≡ relative (effective registers.now self.now) }
+    {
+        RelativeAddress(self.effective_half(registers).get())
+    }
+
+    // The address so many words further on, modulo 32,768.
+    pub(crate) fn further(&self, registers: &Registers, words: u8) -> RelativeAddress
+        ensures { result ≡ relative (further registers.now self.now words) }
+    {
+        let address = self.effective(registers).0 + u32::from(words);
+        RelativeAddress(half_bits(address).get())
+    }
+}
+
+impl<S: Store> Words<'_, S> {
+    // The operand Y by k.
+    pub(crate) fn operand(&self, registers: &Registers, i: &Fields) -> Result<Word, Report>
+        ensures { result ≡ operand (machine_in (S.cells self.now.store.now) self.now.limits registers.now) i.now }
+    {
+        let y = i.effective_half(registers);
+        let at = i.effective(registers);
+        Ok(match i.k {
+            0 => y.with_zeros(),
+            1 => self.read(at)?.lower_half().with_zeros(),
+            2 => self.read(at)?.upper_half().with_zeros(),
+            3 => self.read(at)?,
+            4 => y.extended(),
+            5 => self.read(at)?.lower_half().extended(),
+            6 => self.read(at)?.upper_half().extended(),
+            _ => registers.a(),
+        })
+    }
+}
