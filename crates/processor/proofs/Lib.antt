@@ -5,6 +5,7 @@ pub mod Failed
 pub mod Faults
 pub mod Fitting
 mod Found
+mod Going
 pub mod Kept
 pub mod Referred
 mod Registered

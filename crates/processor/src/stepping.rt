@@ -1,0 +1,97 @@
+// One step: the instruction at P, done whole or not at all.
+ghost use Rattle.std.specs.Prelude.{◌≡◌, ◌<◌, ◌^◌, IfErr};
+ghost use Rattle.processor.specs.Effects.{next_p};
+ghost use Rattle.processor.specs.Limits.{Becomes, Bounded, between, machine_in, row_with};
+ghost use Rattle.processor.specs.Reports.{p_after, p_after_protection};
+ghost use Rattle.processor.specs.Results.{effected, words_left};
+ghost use Rattle.processor.specs.Step.{answer_of, machine_after, step, tried};
+
+use super::effect::{Done, Next};
+use super::fields::Fields;
+use super::guard::Guard;
+use super::instruction::instruction_effect;
+use super::limits::Limits;
+use super::references::Words;
+use super::writing::put_all;
+use super::{ReferenceKind, RelativeAddress, Report};
+use records::Registers;
+use store::Store;
+
+impl Next {
+    fn p_after(self, p: u32) -> u32
+        requires { p < 2 ^ 17 }
+        ensures { result ≡ next_p self p }
+    {
+        match self {
+            Next::Onward => p + 1,
+            Next::Skipping => p + 2,
+            Next::Jumping(target) => target.get(),
+        }
+    }
+}
+
+impl Report {
+    // P after this interrupt: it stays after every parity fault and where a fetch failed, and after any other it is P + 1.
+    fn p_after(&self, p: u32) -> u32
+        requires { p < 2 ^ 17 }
+        ensures { result ≡ p_after self.now p }
+    {
+        match self {
+            Report::Parity(..) => p,
+            Report::Protection(reference) if reference.kind == ReferenceKind::Fetch => p,
+            _ => p + 1,
+        }
+    }
+}
+
+// In order: the fetch at P; illegal codes; what the instruction reads and tests; what it puts, which is all tried first.
+#[tactic(auto, unfolding(crate::specs::Step::tried))]
+fn attempt<S: Store>(
+    store: &mut S,
+    limits: Limits,
+    registers: &mut Registers,
+) -> Result<Done, Report>
+    ensures tried { effected registers.new result ≡ tried (machine_in (S.cells store.old) limits registers.old) }
+    ensures words { Becomes (S.cells store.old) limits (words_left (between (S.cells store.old) limits) result) (S.cells store.new) }
+    ensures bounded { Bounded limits }
+{
+    let words = Words {
+        store: &*store,
+        limits,
+    };
+    let word = words.fetch(RelativeAddress(registers.p()))?;
+    let done = instruction_effect(&words, registers, &Fields::of(word))?;
+    put_all(store, limits, done.puts)?;
+    Ok(done)
+}
+
+// One step. It answers the report if it is interrupted; that leaves all but P.
+#[tactic(auto, unfolding(crate::specs::Step::step))]
+pub fn step<S: Store>(
+    store: &mut S,
+    limits: Limits,
+    registers: &mut Registers,
+) -> Result<(), Report>
+    ensures answer { result ≡ answer_of (step (machine_in (S.cells store.old) limits registers.old)) }
+    ensures registers { registers.new ≡ (machine_after (step (machine_in (S.cells store.old) limits registers.old))).registers }
+    ensures words { Becomes (S.cells store.old) limits (machine_after (step (machine_in (S.cells store.old) limits registers.old))).words (S.cells store.new) }
+{
+    let p = registers.p();
+    let before = *registers;
+    let mut guard = Guard {
+        registers,
+        before,
+        accepted: false,
+    };
+    match attempt(store, limits, guard.registers) {
+        Ok(done) => {
+            guard.registers.set_p(done.next.p_after(p));
+            guard.accepted = true;
+            Ok(())
+        }
+        Err(report) => {
+            guard.registers.set_p(report.p_after(p));
+            Err(report)
+        }
+    }
+}
