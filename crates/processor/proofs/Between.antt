@@ -36,12 +36,12 @@ pub nothing_becomes : (row : List Cell) (l : Limits) → Becomes row l (between 
 nothing_becomes row l = record { there = refl; below = refl; above = refl }
 
 -- a row is what is below the limits, the words between them, and what is above
-pub row_again : (row : List Cell) (l : Limits) → row_with row l.lower l.length (between row l) ≡ row
+pub row_again : (row : List Cell) (l : Limits) → row_with row l (between row l) ≡ row
 row_again row l =
     append_assoc (take l.lower row) (between row l) (drop (l.lower + l.length) row)
     ∙ ap (λ xs. take l.lower row ++ (between row l ++ xs)) (sym (drop-drop l.length l.lower row))
     ∙ ap (λ xs. take l.lower row ++ xs) (take-append-drop l.length (drop l.lower row))
     ∙ take-append-drop l.lower row
 
-pub becomes_row : (row : List Cell) (l : Limits) (words after : List Cell) → Becomes row l words after → after ≡ row_with row l.lower l.length words
+pub becomes_row : (row : List Cell) (l : Limits) (words after : List Cell) → Becomes row l words after → after ≡ row_with row l words
 becomes_row row l words after b = sym (row_again after l) ∙ rw (b.there, b.below, b.above) refl

@@ -3,12 +3,13 @@ use Rattle.std.proofs.Common.{ℕ, zero, suc, ◌≡◌, List, [], ◌∷◌, le
 use Rattle.std.proofs.lemmas.List.{length-set}
 use Rattle.store.specs.Cells.{Cell}
 use Rattle.processor.specs.declared.report.Report.{Report}
+use Rattle.records.specs.Registers.{with_p}
 use Rattle.processor.specs.declared.effect.Put.{Put}
 use Rattle.processor.specs.declared.effect.Put.TheVariants as put
 use Rattle.processor.specs.Effects.{Effect, put_done, puts_done}
 use Rattle.processor.specs.Machine.{Machine}
 use Rattle.processor.specs.Run.{run, run_on}
-use Rattle.processor.specs.Step.{Stepped, completed, interrupted, step, stepped, tried}
+use Rattle.processor.specs.Step.{Stepped, completed, interrupted, answer_of, machine_after, step, stepped, tried}
 
 put_kept : (words : List Cell) (p : Put) → length (put_done words p) ≡ length words
 put_kept words (put.Whole r w) = length-set words _ _
@@ -30,6 +31,26 @@ stepped_kept m (Err report) = refl
 step_kept : (m : Machine) → Keeps m (step m)
 unfolding step
 step_kept m = stepped_kept m (tried m)
+
+kept_after : (m : Machine) (s : Stepped) → Keeps m s → length (machine_after s).words ≡ length m.words
+kept_after m (completed after) kept = kept
+kept_after m (interrupted report after) kept = kept
+
+pub step_words_kept : (m : Machine) → length (machine_after (step m)).words ≡ length m.words
+step_words_kept m = kept_after m (step m) (step_kept m)
+
+-- and one that is interrupted keeps all but P
+pub record KeepsAllButP (m after : Machine) : Type 0 where
+  pub registers : after.registers ≡ with_p m.registers after.registers.p
+  pub words : after.words ≡ m.words
+
+if_interrupted : (m : Machine) (r : Result Effect Report) (report : Report) → Err report ≡ answer_of (stepped m r) → KeepsAllButP m (machine_after (stepped m r))
+if_interrupted m (Ok effect) report is = let no : ⊥ = cc in absurd no
+if_interrupted m (Err other) report is = record { registers = refl; words = refl }
+
+pub step_interrupted : (m : Machine) (report : Report) → Err report ≡ answer_of (step m) → KeepsAllButP m (machine_after (step m))
+unfolding step
+step_interrupted m report is = if_interrupted m (tried m) report is
 
 run_on_kept : (budget : ℕ) (m : Machine) (s : Stepped) → ((n : Machine) → length (run budget n).machine.words ≡ length n.words) → Keeps m s → length (run_on s (run budget)).machine.words ≡ length m.words
 run_on_kept budget m (completed after) rest kept = rest after ∙ kept

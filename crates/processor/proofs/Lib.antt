@@ -6,6 +6,7 @@ pub mod Faults
 pub mod Fitting
 mod Found
 mod Going
+mod Outside
 pub mod Kept
 pub mod Referred
 mod Registered

@@ -8,6 +8,7 @@ pub mod Jumps
 pub mod Limits
 pub mod Machine
 pub mod Operands
+pub mod Placed
 pub mod References
 pub mod Repertoire
 pub mod Reporting

@@ -1,6 +1,6 @@
 -- Where a worker's words lie: its limits, and the words between them.
-use Rattle.std.specs.Prelude.{◌≡◌, ℕ, ◌+◌, ◌≤◌, List, ◌++◌, take, drop}
-use Rattle.store.specs.Cells.{Cell, most_cells}
+use Rattle.std.specs.Prelude.{◌≡◌, ℕ, ◌+◌, ◌<◌, ◌≤◌, ◌⊎◌, List, ◌++◌, length, take, drop}
+use Rattle.store.specs.Cells.{Cell, cell_at, most_cells}
 use Rattle.records.specs.Registers.{Registers}
 use Rattle.processor.specs.Machine.{Machine}
 
@@ -16,17 +16,13 @@ most_words = 32768
 abbrev pub Bounded : Limits → Type 0
 Bounded l = (l.length ≤ most_words) × (l.lower + l.length ≤ most_cells)
 
--- the words of so many cells of a row, from a lower limit on
-abbrev pub words_in : List Cell → (lower length : ℕ) → List Cell
-words_in row lower n = take n (drop lower row)
+-- the words between them, of the cells of a row
+abbrev pub between : List Cell → Limits → List Cell
+between row l = take l.length (drop l.lower row)
 
 -- the row with other words there
-abbrev pub row_with : List Cell → (lower length : ℕ) → List Cell → List Cell
-row_with row lower n words = take lower row ++ words ++ drop (lower + n) row
-
--- the words between limits
-abbrev pub between : List Cell → Limits → List Cell
-between row l = words_in row l.lower l.length
+abbrev pub row_with : List Cell → Limits → List Cell → List Cell
+row_with row l words = take l.lower row ++ words ++ drop (l.lower + l.length) row
 
 -- the machine of the worker that has these limits and registers
 abbrev pub machine_in : List Cell → Limits → Registers → Machine
@@ -37,3 +33,11 @@ pub record Becomes (row : List Cell) (l : Limits) (words : List Cell) (after : L
   pub there : between after l ≡ words
   pub below : take l.lower after ≡ take l.lower row
   pub above : drop (l.lower + l.length) after ≡ drop (l.lower + l.length) row
+
+-- a cell that is not one of theirs
+abbrev pub Outside : Limits → ℕ → Type 0
+Outside l cell = (cell < l.lower) ⊎ (l.lower + l.length ≤ cell)
+
+-- no other cell changes, and there are as many
+abbrev pub KeepsOtherCells : (row : List Cell) → Limits → (after : List Cell) → Type 0
+KeepsOtherCells row l after = ((cell : ℕ) → Outside l cell → cell_at after cell ≡ cell_at row cell) × (length after ≡ length row)

@@ -1,5 +1,5 @@
 -- A run: steps until the budget is spent or one interrupts.
-use Rattle.std.specs.Prelude.{ℕ, zero, suc, Option, Some, None}
+use Rattle.std.specs.Prelude.{◌≡◌, ℕ, zero, suc, ◌≤◌, Option, Some, None}
 use Rattle.processor.specs.declared.outcome.Ending.{Ending}
 use Rattle.processor.specs.declared.outcome.Ending.TheVariants.{Spent, Interrupted}
 use Rattle.processor.specs.declared.outcome.Ran.{Ran}
@@ -11,6 +11,11 @@ use Rattle.processor.specs.Step.{Stepped, completed, interrupted, step}
 abbrev pub report_of : Ending → Option Report
 report_of Spent = None
 report_of (Interrupted report) = Some report
+
+-- a run is done by as many steps as the budget has, and one that is interrupted by at least one and no more
+abbrev pub StepsOf : Ending → (steps budget : ℕ) → Type 0
+StepsOf Spent steps budget = steps ≡ budget
+StepsOf (Interrupted report) steps budget = (1 ≤ steps) × (steps ≤ budget)
 
 -- what is told of the run, and the machine after it
 pub record Outcome : Type 0 where

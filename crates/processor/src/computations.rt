@@ -35,10 +35,14 @@ impl Computation {
         }
     }
 
-    fn compute_in(self, registers: &mut Registers, y: Word)
-        ensures { registers.new ≡ with_computed self registers.old y }
+    // Puts it in A, and answers it.
+    fn compute_in(self, registers: &mut Registers, y: Word) -> Word
+        ensures value { result ≡ registers.new.a }
+        ensures after { registers.new ≡ with_computed self registers.old y }
     {
-        registers.set_a(self.of(registers.a(), registers.q(), y));
+        let a = self.of(registers.a(), registers.q(), y);
+        registers.set_a(a);
+        a
     }
 
     fn next(self, j: u8, registers: &Registers) -> Next
@@ -73,8 +77,7 @@ pub(crate) fn replace<S: Store>(
 {
     let at = i.effective(registers);
     let y = words.operand(registers, i)?;
-    computation.compute_in(registers, y);
-    let a = registers.a();
+    let a = computation.compute_in(registers, y);
     Ok(Done {
         puts: Puts::stored(i.k, at, a, a),
         next: computation.next(i.j, registers),

@@ -1,22 +1,26 @@
 // A run: steps until the budget is spent or one interrupts.
 ghost use Rattle.std.specs.Prelude.{◌≡◌};
-ghost use Rattle.processor.specs.Limits.{Becomes, machine_in};
-ghost use Rattle.processor.specs.Run.{run};
+ghost use Rattle.records.specs.Registers.{Fits};
+ghost use Rattle.processor.specs.Limits.{Becomes, KeepsOtherCells, between, row_with};
+ghost use Rattle.processor.specs.Placed.{run_in};
+ghost use Rattle.processor.specs.Run.{StepsOf};
 
 use super::limits::Limits;
-use super::stepping::step;
+use super::stepping::guarded_step;
 use super::{Ending, Ran};
 use records::Registers;
 use store::Store;
 
-// Runs for a budget of steps; the step that interrupts is counted, and is the last.
-pub fn run<S: Store>(store: &mut S, limits: Limits, registers: &mut Registers, budget: u32) -> Ran
-    ensures told { result ≡ (run budget (machine_in (S.cells store.old) limits registers.old)).told }
-    ensures registers { registers.new ≡ (run budget (machine_in (S.cells store.old) limits registers.old)).machine.registers }
-    ensures words { Becomes (S.cells store.old) limits (run budget (machine_in (S.cells store.old) limits registers.old)).machine.words (S.cells store.new) }
+// What `run` does, apart from it for the proof of its laws.
+fn run_steps<S: Store>(store: &mut S, limits: Limits, registers: &mut Registers, budget: u32) -> Ran
+    ensures told { result ≡ (run_in (S.cells store.old) limits registers.old budget).told }
+    ensures registers { registers.new ≡ (run_in (S.cells store.old) limits registers.old budget).machine.registers }
+    ensures words { Becomes (S.cells store.old) limits (run_in (S.cells store.old) limits registers.old budget).machine.words (S.cells store.new) }
+    ensures widths { Fits registers.old → Fits registers.new }
+    ensures steps { StepsOf result.ending result.steps budget }
 {
     for done in 0..budget {
-        if let Err(report) = step(store, limits, registers) {
+        if let Err(report) = guarded_step(store, limits, registers) {
             return Ran {
                 steps: done + 1,
                 ending: Ending::Interrupted(report),
@@ -27,4 +31,17 @@ pub fn run<S: Store>(store: &mut S, limits: Limits, registers: &mut Registers, b
         steps: budget,
         ending: Ending::Spent,
     }
+}
+
+// Does as many steps as the budget has, or up to and with the first that is interrupted.
+pub fn run<S: Store>(store: &mut S, limits: Limits, registers: &mut Registers, budget: u32) -> Ran
+    ensures told { result ≡ (run_in (S.cells store.old) limits registers.old budget).told }
+    ensures registers { registers.new ≡ (run_in (S.cells store.old) limits registers.old budget).machine.registers }
+    ensures words { between (S.cells store.new) limits ≡ (run_in (S.cells store.old) limits registers.old budget).machine.words }
+    ensures row { S.cells store.new ≡ row_with (S.cells store.old) limits (run_in (S.cells store.old) limits registers.old budget).machine.words }
+    ensures other_cells { KeepsOtherCells (S.cells store.old) limits (S.cells store.new) }
+    ensures widths { Fits registers.old → Fits registers.new }
+    ensures steps { StepsOf result.ending result.steps budget }
+{
+    run_steps(store, limits, registers, budget)
 }

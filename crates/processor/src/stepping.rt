@@ -1,10 +1,12 @@
 // One step: the instruction at P, done whole or not at all.
-ghost use Rattle.std.specs.Prelude.{◌≡◌, ◌<◌, ◌^◌, IfErr};
+ghost use Rattle.std.specs.Prelude.{◌≡◌, ◌<◌, ◌^◌, length, OnErr};
+ghost use Rattle.records.specs.Registers.{Fits, with_p};
 ghost use Rattle.processor.specs.Effects.{next_p};
-ghost use Rattle.processor.specs.Limits.{Becomes, Bounded, between, machine_in, row_with};
+ghost use Rattle.processor.specs.Limits.{Becomes, Bounded, KeepsOtherCells, between, machine_in, row_with};
+ghost use Rattle.processor.specs.Placed.{step_in};
 ghost use Rattle.processor.specs.Reports.{p_after, p_after_protection};
 ghost use Rattle.processor.specs.Results.{effected, words_left};
-ghost use Rattle.processor.specs.Step.{answer_of, machine_after, step, tried};
+ghost use Rattle.processor.specs.Step.{answer_of, machine_after, tried};
 
 use super::effect::{Done, Next};
 use super::fields::Fields;
@@ -65,16 +67,18 @@ fn attempt<S: Store>(
     Ok(done)
 }
 
-// One step. It answers the report if it is interrupted; that leaves all but P.
+// One step under the guard.
 #[tactic(auto, unfolding(crate::specs::Step::step))]
-pub fn step<S: Store>(
+pub(crate) fn guarded_step<S: Store>(
     store: &mut S,
     limits: Limits,
     registers: &mut Registers,
 ) -> Result<(), Report>
-    ensures answer { result ≡ answer_of (step (machine_in (S.cells store.old) limits registers.old)) }
-    ensures registers { registers.new ≡ (machine_after (step (machine_in (S.cells store.old) limits registers.old))).registers }
-    ensures words { Becomes (S.cells store.old) limits (machine_after (step (machine_in (S.cells store.old) limits registers.old))).words (S.cells store.new) }
+    ensures answer { result ≡ answer_of (step_in (S.cells store.old) limits registers.old) }
+    ensures registers { registers.new ≡ (machine_after (step_in (S.cells store.old) limits registers.old)).registers }
+    ensures words { Becomes (S.cells store.old) limits (machine_after (step_in (S.cells store.old) limits registers.old)).words (S.cells store.new) }
+    ensures bounded { Bounded limits }
+    ensures fits { Fits registers.old }
 {
     let p = registers.p();
     let before = *registers;
@@ -94,4 +98,21 @@ pub fn step<S: Store>(
             Err(report)
         }
     }
+}
+
+// One step. It answers the report if it is interrupted, and that leaves all but P.
+pub fn step<S: Store>(
+    store: &mut S,
+    limits: Limits,
+    registers: &mut Registers,
+) -> Result<(), Report>
+    ensures answer { result ≡ answer_of (step_in (S.cells store.old) limits registers.old) }
+    ensures registers { registers.new ≡ (machine_after (step_in (S.cells store.old) limits registers.old)).registers }
+    ensures words { between (S.cells store.new) limits ≡ (machine_after (step_in (S.cells store.old) limits registers.old)).words }
+    ensures row { S.cells store.new ≡ row_with (S.cells store.old) limits (machine_after (step_in (S.cells store.old) limits registers.old)).words }
+    ensures other_cells { KeepsOtherCells (S.cells store.old) limits (S.cells store.new) }
+    ensures widths { Fits registers.new }
+    ensures interrupted { OnErr result ((registers.new ≡ with_p registers.old registers.new.p) × (S.cells store.new ≡ S.cells store.old)) }
+{
+    guarded_step(store, limits, registers)
 }

@@ -1,19 +1,36 @@
-use Rattle.std.proofs.Common.{sym}
+use Rattle.std.proofs.Common.{◌≡◌, Err, Ok, Result, refl}
+use Rattle.std.specs.Prelude.{OnErr}
+use Rattle.processor.specs.declared.report.Report.{Report}
 use Rattle.processor.specs.Limits.{machine_in}
-use Rattle.processor.specs.Results.{effect}
-use Rattle.processor.proofs.Fitting.{registers_if_completed, registers_if_interrupted}
+use Rattle.processor.proofs.Between.{becomes_row}
+use Rattle.processor.proofs.Fitting.{step_registers_fit}
+use Rattle.processor.proofs.Kept.{step_interrupted, step_words_kept}
+use Rattle.processor.proofs.Outside.{all_kept, others_kept}
 use Rattle.processor.proofs.stepping.step.Goals as goal
 
-pub returns-in-Ok-clause-registers : goal.returns-in-Ok-clause-registers
-returns-in-Ok-clause-registers g c =
-    let m = machine_in (g.S.Store.cells c.args.store.now) c.args.limits c.args.registers.now in
-    let given = c.in-Ok.ensures in
-    rw (c.drop-guard.ensures, c.set_p.ensures, c.p_after.ensures, c.p-p.ensures.value)
-    (registers_if_completed m given.bounded.0 c.p-p.ensures.fits (effect c.attempt.new.registers c.in-Ok.done) (sym given.tried))
+pub returns-clause-row : goal.returns-clause-row
+returns-clause-row g c = becomes_row (g.S.Store.cells c.args.store.now) c.args.limits _ (g.S.Store.cells c.guarded_step.new.store) c.guarded_step.ensures.words
 
-pub returns-clause-registers : goal.returns-clause-registers
-returns-clause-registers g c =
+pub returns-clause-other_cells : goal.returns-clause-other_cells
+returns-clause-other_cells g c =
     let m = machine_in (g.S.Store.cells c.args.store.now) c.args.limits c.args.registers.now in
-    let given = c.in-Err.ensures in
-    rw (c.drop-guard-2.ensures, c.set_p-in-Err.ensures, c.p_after-in-Err.ensures, c.p-p.ensures.value)
-    (registers_if_interrupted m given.bounded.0 c.p-p.ensures.fits c.in-Err.report (sym given.tried))
+    others_kept (g.S.Store.cells c.args.store.now) c.args.limits _ (g.S.Store.cells c.guarded_step.new.store) c.guarded_step.ensures.words (step_words_kept m)
+
+pub returns-clause-widths : goal.returns-clause-widths
+returns-clause-widths g c =
+    let m = machine_in (g.S.Store.cells c.args.store.now) c.args.limits c.args.registers.now in
+    let given = c.guarded_step.ensures in
+    rw given.registers (step_registers_fit m given.bounded.0 given.fits)
+
+on_err : (X : Type 0) (r : Result (Unit {0}) Report) → ((report : Report) → r ≡ Err report → X) → OnErr r X
+on_err X (Ok u) holds = tt
+on_err X (Err report) holds = holds report refl
+
+pub returns-clause-interrupted : goal.returns-clause-interrupted
+returns-clause-interrupted g c =
+    let row = g.S.Store.cells c.args.store.now in
+    let m = machine_in row c.args.limits c.args.registers.now in
+    let given = c.guarded_step.ensures in
+    on_err _ c.guarded_step.result (λ report is.
+    let kept = step_interrupted m report (rw (← is) given.answer) in
+    (rw given.registers kept.registers, all_kept row c.args.limits (g.S.Store.cells c.guarded_step.new.store) (rw (← kept.words) given.words)))

@@ -1,5 +1,0 @@
-use Rattle.processor.proofs.Going.{Going}
-use Rattle.processor.proofs.running.run.Given as goal
-
-abbrev pub invariant-loop-done : goal.invariant-loop-done
-invariant-loop-done g l = Going (g.S.Store.cells l.fn.store) l.fn.limits l.fn.registers l.budget l.done (g.S.Store.cells l.store) l.registers
