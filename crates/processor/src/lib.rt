@@ -1,4 +1,4 @@
-// The processor that a worker runs on: a worker's program knows its words by relative addresses alone. So far it is defined, in specs/.
+// The processor that a worker runs on: a worker's program knows its words by relative addresses alone. Its definition is in specs/; a step and a run of the code are proved to be those, over every store.
 #![tactic(auto)]
 
 mod address;
@@ -25,7 +25,7 @@ mod transfers;
 mod writing;
 
 pub use address::RelativeAddress;
-pub use limits::{Limits, MOST_WORDS};
+pub use limits::Limits;
 pub use operation::{Computation, Operation, Shifted};
 pub use outcome::{Ending, Ran};
 pub use report::{Cause, Reference, ReferenceKind, Report};

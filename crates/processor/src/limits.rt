@@ -9,7 +9,7 @@ use std::marker::Model;
 use store::{CellAddress, MOST_CELLS};
 
 // The most words that a worker has.
-pub const MOST_WORDS: u32 = 32_768;
+const MOST_WORDS: u32 = 32_768;
 
 // So many cells from the lower limit on: at most 32,768, and none past the 131,072 that a store can have.
 #[derive(Clone, Copy, Debug, PartialEq, Eq)]

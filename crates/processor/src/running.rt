@@ -1,5 +1,5 @@
 // A run: steps until the budget is spent or one interrupts.
-ghost use Rattle.std.specs.Prelude.{◌≡◌};
+ghost use Rattle.std.specs.Prelude.{◌≡◌, length};
 ghost use Rattle.records.specs.Registers.{Fits};
 ghost use Rattle.processor.specs.Limits.{Becomes, KeepsOtherCells, between, row_with};
 ghost use Rattle.processor.specs.Placed.{run_in};
@@ -40,6 +40,7 @@ pub fn run<S: Store>(store: &mut S, limits: Limits, registers: &mut Registers, b
     ensures words { between (S.cells store.new) limits ≡ (run_in (S.cells store.old) limits registers.old budget).machine.words }
     ensures row { S.cells store.new ≡ row_with (S.cells store.old) limits (run_in (S.cells store.old) limits registers.old budget).machine.words }
     ensures other_cells { KeepsOtherCells (S.cells store.old) limits (S.cells store.new) }
+    ensures number { length (between (S.cells store.new) limits) ≡ length (between (S.cells store.old) limits) }
     ensures widths { Fits registers.old → Fits registers.new }
     ensures steps { StepsOf result.ending result.steps budget }
 {

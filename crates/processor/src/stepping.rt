@@ -111,6 +111,7 @@ pub fn step<S: Store>(
     ensures words { between (S.cells store.new) limits ≡ (machine_after (step_in (S.cells store.old) limits registers.old)).words }
     ensures row { S.cells store.new ≡ row_with (S.cells store.old) limits (machine_after (step_in (S.cells store.old) limits registers.old)).words }
     ensures other_cells { KeepsOtherCells (S.cells store.old) limits (S.cells store.new) }
+    ensures number { length (between (S.cells store.new) limits) ≡ length (between (S.cells store.old) limits) }
     ensures widths { Fits registers.new }
     ensures interrupted { OnErr result ((registers.new ≡ with_p registers.old registers.new.p) × (S.cells store.new ≡ S.cells store.old)) }
 {

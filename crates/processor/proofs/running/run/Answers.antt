@@ -11,3 +11,8 @@ pub returns-clause-other_cells : goal.returns-clause-other_cells
 returns-clause-other_cells g c =
     let m = machine_in (g.S.Store.cells c.args.store.now) c.args.limits c.args.registers.now in
     others_kept (g.S.Store.cells c.args.store.now) c.args.limits _ (g.S.Store.cells c.run_steps.new.store) c.run_steps.ensures.words (run_kept c.args.budget m)
+
+pub returns-clause-number : goal.returns-clause-number
+returns-clause-number g c =
+    let m = machine_in (g.S.Store.cells c.args.store.now) c.args.limits c.args.registers.now in
+    rw c.run_steps.ensures.words.there (run_kept c.args.budget m)

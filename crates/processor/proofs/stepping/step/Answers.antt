@@ -34,3 +34,8 @@ returns-clause-interrupted g c =
     on_err _ c.guarded_step.result (λ report is.
     let kept = step_interrupted m report (rw (← is) given.answer) in
     (rw given.registers kept.registers, all_kept row c.args.limits (g.S.Store.cells c.guarded_step.new.store) (rw (← kept.words) given.words)))
+
+pub returns-clause-number : goal.returns-clause-number
+returns-clause-number g c =
+    let m = machine_in (g.S.Store.cells c.args.store.now) c.args.limits c.args.registers.now in
+    rw c.guarded_step.ensures.words.there (step_words_kept m)
