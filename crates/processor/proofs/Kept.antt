@@ -3,7 +3,7 @@ use Rattle.std.proofs.Common.{ℕ, zero, suc, ◌≡◌, List, [], ◌∷◌, le
 use Rattle.std.proofs.lemmas.List.{length-set}
 use Rattle.store.specs.Cells.{Cell}
 use Rattle.processor.specs.declared.report.Report.{Report}
-use Rattle.records.specs.Registers.{with_p}
+use Rattle.records.specs.Registers.{Registers, with_p}
 use Rattle.processor.specs.declared.effect.Put.{Put}
 use Rattle.processor.specs.declared.effect.Put.TheVariants as put
 use Rattle.processor.specs.Effects.{Effect, put_done, puts_done}
@@ -39,16 +39,15 @@ kept_after m (interrupted report after) kept = kept
 pub step_words_kept : (m : Machine) → length (machine_after (step m)).words ≡ length m.words
 step_words_kept m = kept_after m (step m) (step_kept m)
 
--- and one that is interrupted keeps all but P
-pub record KeepsAllButP (m after : Machine) : Type 0 where
-  pub registers : after.registers ≡ with_p m.registers after.registers.p
-  pub words : after.words ≡ m.words
+-- and one that is interrupted keeps all registers but P
+abbrev KeepsAllButP : Registers → Registers → Type 0
+KeepsAllButP r after = after ≡ with_p r after.p
 
-if_interrupted : (m : Machine) (r : Result Effect Report) (report : Report) → Err report ≡ answer_of (stepped m r) → KeepsAllButP m (machine_after (stepped m r))
+if_interrupted : (m : Machine) (r : Result Effect Report) (report : Report) → Err report ≡ answer_of (stepped m r) → KeepsAllButP m.registers (machine_after (stepped m r)).registers
 if_interrupted m (Ok effect) report is = let no : ⊥ = cc in absurd no
-if_interrupted m (Err other) report is = record { registers = refl; words = refl }
+if_interrupted m (Err other) report is = refl
 
-pub step_interrupted : (m : Machine) (report : Report) → Err report ≡ answer_of (step m) → KeepsAllButP m (machine_after (step m))
+pub step_interrupted : (m : Machine) (report : Report) → Err report ≡ answer_of (step m) → KeepsAllButP m.registers (machine_after (step m)).registers
 unfolding step
 step_interrupted m report is = if_interrupted m (tried m) report is
 

@@ -34,7 +34,3 @@ module _ (row : List Cell) (l : Limits) (words after : List Cell) (becomes : Bec
 
     pub others_kept : KeepsOtherCells row l after
     others_kept = (λ cell outside. ⊎_elim (cell_below cell) (cell_above cell) outside, same_number)
-
--- where they stay, all of it does
-pub all_kept : (row : List Cell) (l : Limits) (after : List Cell) → Becomes row l (between row l) after → after ≡ row
-all_kept row l after becomes = becomes_row row l (between row l) after becomes ∙ row_again row l

@@ -56,6 +56,7 @@ fn attempt<S: Store>(
     ensures tried { effected registers.new result ≡ tried (machine_in (S.cells store.old) limits registers.old) }
     ensures words { Becomes (S.cells store.old) limits (words_left (between (S.cells store.old) limits) result) (S.cells store.new) }
     ensures bounded { Bounded limits }
+    ensures refused { OnErr result (store.new ≡ store.old) }
 {
     let words = Words {
         store: &*store,
@@ -78,6 +79,7 @@ pub(crate) fn guarded_step<S: Store>(
     ensures registers { registers.new ≡ (machine_after (step_in (S.cells store.old) limits registers.old)).registers }
     ensures words { Becomes (S.cells store.old) limits (machine_after (step_in (S.cells store.old) limits registers.old)).words (S.cells store.new) }
     ensures bounded { Bounded limits }
+    ensures refused { OnErr result (store.new ≡ store.old) }
     ensures fits { Fits registers.old }
 {
     let p = registers.p();
@@ -113,7 +115,8 @@ pub fn step<S: Store>(
     ensures other_cells { KeepsOtherCells (S.cells store.old) limits (S.cells store.new) }
     ensures number { length (between (S.cells store.new) limits) ≡ length (between (S.cells store.old) limits) }
     ensures widths { Fits registers.new }
-    ensures interrupted { OnErr result ((registers.new ≡ with_p registers.old registers.new.p) × (S.cells store.new ≡ S.cells store.old)) }
+    ensures interrupted { OnErr result (registers.new ≡ with_p registers.old registers.new.p) }
+    ensures refused { OnErr result (store.new ≡ store.old) }
 {
     guarded_step(store, limits, registers)
 }

@@ -1,5 +1,5 @@
 // What instructions put: all of it is tried before any of it is done.
-ghost use Rattle.std.specs.Prelude.{◌≡◌, is_ok, if◌then◌else◌};
+ghost use Rattle.std.specs.Prelude.{◌≡◌, OnErr, is_ok, if◌then◌else◌};
 ghost use Rattle.store.specs.Functions.{half_put, put_half_answer, put_whole_answer, whole_put};
 ghost use Rattle.processor.specs.Effects.{put_done, put_tried, puts_done, puts_tried};
 ghost use Rattle.processor.specs.Limits.{Becomes, between};
@@ -51,6 +51,7 @@ fn put_whole<S: Store>(
 ) -> Result<(), ReferenceFault>
     ensures answer { result ≡ limits_tried limits.length address.0 (put_whole_answer (between (S.cells store.old) limits) address.0) }
     ensures after { Becomes (S.cells store.old) limits (if is_ok result then whole_put (between (S.cells store.old) limits) address.0 word else between (S.cells store.old) limits) (S.cells store.new) }
+    ensures refused { OnErr result (store.new ≡ store.old) }
 {
     let cell = limits.cell(address)?;
     Ok(store.put_whole(cell, word.get())?)
@@ -66,6 +67,7 @@ fn put_half<S: Store>(
 ) -> Result<(), ReferenceFault>
     ensures answer { result ≡ limits_tried limits.length address.0 (put_half_answer (between (S.cells store.old) limits) address.0 half) }
     ensures after { Becomes (S.cells store.old) limits (if is_ok result then half_put (between (S.cells store.old) limits) address.0 half number else between (S.cells store.old) limits) (S.cells store.new) }
+    ensures refused { OnErr result (store.new ≡ store.old) }
 {
     let cell = limits.cell(address)?;
     Ok(store.put_half(cell, half, number.get())?)
@@ -74,6 +76,7 @@ fn put_half<S: Store>(
 fn put<S: Store>(store: &mut S, limits: Limits, put: Put) -> Result<(), Report>
     ensures answer { result ≡ put_tried limits.length (between (S.cells store.old) limits) put }
     ensures after { Becomes (S.cells store.old) limits (if is_ok result then put_done (between (S.cells store.old) limits) put else between (S.cells store.old) limits) (S.cells store.new) }
+    ensures refused { OnErr result (store.new ≡ store.old) }
 {
     match put {
         Put::Whole(address, word) => Ok(named(
@@ -93,6 +96,7 @@ fn put<S: Store>(store: &mut S, limits: Limits, put: Put) -> Result<(), Report>
 pub(crate) fn put_all<S: Store>(store: &mut S, limits: Limits, puts: Puts) -> Result<(), Report>
     ensures answer { result ≡ puts_tried limits.length (between (S.cells store.old) limits) (puts_of puts) }
     ensures after { Becomes (S.cells store.old) limits (if is_ok result then puts_done (between (S.cells store.old) limits) (puts_of puts) else between (S.cells store.old) limits) (S.cells store.new) }
+    ensures refused { OnErr result (store.new ≡ store.old) }
 {
     match puts {
         Puts::Nothing => Ok(()),

@@ -5,7 +5,7 @@ use Rattle.processor.specs.Limits.{machine_in}
 use Rattle.processor.proofs.Between.{becomes_row}
 use Rattle.processor.proofs.Fitting.{step_registers_fit}
 use Rattle.processor.proofs.Kept.{step_interrupted, step_words_kept}
-use Rattle.processor.proofs.Outside.{all_kept, others_kept}
+use Rattle.processor.proofs.Outside.{others_kept}
 use Rattle.processor.proofs.stepping.step.Goals as goal
 
 pub returns-clause-row : goal.returns-clause-row
@@ -28,12 +28,9 @@ on_err X (Err report) holds = holds report refl
 
 pub returns-clause-interrupted : goal.returns-clause-interrupted
 returns-clause-interrupted g c =
-    let row = g.S.Store.cells c.args.store.now in
-    let m = machine_in row c.args.limits c.args.registers.now in
+    let m = machine_in (g.S.Store.cells c.args.store.now) c.args.limits c.args.registers.now in
     let given = c.guarded_step.ensures in
-    on_err _ c.guarded_step.result (λ report is.
-    let kept = step_interrupted m report (rw (← is) given.answer) in
-    (rw given.registers kept.registers, all_kept row c.args.limits (g.S.Store.cells c.guarded_step.new.store) (rw (← kept.words) given.words)))
+    on_err _ c.guarded_step.result (λ report is. rw given.registers (step_interrupted m report (rw (← is) given.answer)))
 
 pub returns-clause-number : goal.returns-clause-number
 returns-clause-number g c =
