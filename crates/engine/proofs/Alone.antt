@@ -9,7 +9,8 @@ use Rattle.engine.specs.declared.call.Request.{Request}
 use Rattle.engine.specs.declared.call.Request.TheVariants as request
 use Rattle.engine.specs.declared.refusal.Refusal.{Refusal}
 use Rattle.engine.specs.declared.refusal.Refusal.TheVariants as refusal
-use Rattle.engine.specs.Installation.{Installation, Holder, holder, holder_of, if_occupied, place_at, place_by, words_in, row_with, with_own, Done}
+use Rattle.processor.specs.Limits.{words_in, row_with}
+use Rattle.engine.specs.Installation.{Installation, Holder, holder, holder_of, if_occupied, place_at, place_by, with_own, Done}
 use Rattle.engine.specs.Own.{Own}
 use Rattle.engine.specs.Performing.{taken_or_refused, request_refused, performed}
 use Rattle.engine.specs.Serving.{Served, served, serving}

@@ -8,7 +8,8 @@ use Rattle.engine.specs.declared.call.Call.TheVariants as call
 use Rattle.engine.specs.declared.call.Request.{Request}
 use Rattle.engine.specs.declared.place.Worker.{Worker}
 use Rattle.engine.specs.Exchanges.{after, is_for}
-use Rattle.engine.specs.Installation.{Installation, Done, holder, made, worker_of, worker_at, words_in}
+use Rattle.processor.specs.Limits.{words_in}
+use Rattle.engine.specs.Installation.{Installation, Done, holder, made, worker_of, worker_at}
 use Rattle.engine.specs.Laws.{Has, OnlyItsCells}
 use Rattle.engine.specs.Performing.{ask, taken, performed}
 use Rattle.engine.specs.Serving.{served}

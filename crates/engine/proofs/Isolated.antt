@@ -9,7 +9,8 @@ use Rattle.engine.specs.declared.call.Call.TheVariants as call
 use Rattle.engine.specs.declared.call.Terms.{Terms}
 use Rattle.engine.specs.Admission.{admit}
 use Rattle.engine.specs.Exchanges.{ends_by_retire}
-use Rattle.engine.specs.Installation.{Installation, Holder, holder, if_occupied, made, words_in, Done}
+use Rattle.processor.specs.Limits.{words_in}
+use Rattle.engine.specs.Installation.{Installation, Holder, holder, if_occupied, made, Done}
 use Rattle.engine.specs.Isolation.{WithAdmit, Isolation, Admits, before_admit, just_after, calls_for, answers_to, at_last, words_of, would_tell}
 use Rattle.engine.specs.Own.{Own}
 use Rattle.engine.specs.Performing.{performed}

@@ -8,7 +8,8 @@ use Rattle.engine.specs.declared.call.Request.TheVariants as request
 use Rattle.engine.specs.declared.place.Span.{Span}
 use Rattle.engine.specs.declared.refusal.Refusal.TheVariants as refusal
 use Rattle.engine.specs.Exchanges.{Exchange, calls_in, answers_in, exchanges, after, is_for, is_retire, exchanges_with, is_empty, ends_by_retire}
-use Rattle.engine.specs.Installation.{Installation, Holder, holder, words_in}
+use Rattle.processor.specs.Limits.{words_in}
+use Rattle.engine.specs.Installation.{Installation, Holder, holder}
 use Rattle.engine.specs.Performing.{performed}
 use Rattle.engine.proofs.Alone.{alone, asked, Alike, asked_alone, own_words, freed, freed_told, retired_alone, Seen, seen_after}
 use Rattle.engine.proofs.Histories.{performed_sound}

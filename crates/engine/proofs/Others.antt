@@ -15,7 +15,8 @@ use Rattle.engine.specs.declared.refusal.Refusal.TheVariants as refusal
 use Rattle.engine.specs.Admission.{admit, retire, share, is_free}
 use Rattle.engine.specs.FixedAddress.{fixed_address}
 use Rattle.engine.specs.Exchanges.{is_for}
-use Rattle.engine.specs.Installation.{Installation, Holder, holder, if_occupied, place_at, words_in, row_with, Done}
+use Rattle.processor.specs.Limits.{words_in, row_with}
+use Rattle.engine.specs.Installation.{Installation, Holder, holder, if_occupied, place_at, Done}
 use Rattle.engine.specs.Performing.{ask, taken, performed}
 use Rattle.engine.specs.Serving.{served}
 use Rattle.engine.proofs.Admitting.{of_admit}

@@ -12,7 +12,8 @@ use Rattle.engine.specs.declared.place.Span.{Span}
 use Rattle.engine.specs.declared.place.Worker.{Worker}
 use Rattle.engine.specs.declared.refusal.Refusal.TheVariants.{NoSuchPlace}
 use Rattle.store.specs.Cells.{Cell}
-use Rattle.engine.specs.Installation.{Installation, Holder, place_at, place_by, worker_of, holder, if_occupied, words_in, span_in}
+use Rattle.processor.specs.Limits.{words_in}
+use Rattle.engine.specs.Installation.{Installation, Holder, place_at, place_by, worker_of, holder, if_occupied, span_in}
 use Rattle.engine.specs.Refusals.{require}
 use Rattle.engine.proofs.Results.{OkIs, ok_is, required_then}
 

@@ -3,8 +3,9 @@ use Rattle.std.proofs.Common.{ℕ, ◌≡◌, ◌≤◌, List, length, Some, Ok,
 use Rattle.processor.specs.declared.outcome.Ending.{Ending}
 use Rattle.processor.specs.declared.outcome.Ending.TheVariants.{Spent, Interrupted}
 use Rattle.processor.specs.Run.{run, report_of}
-use Rattle.processor.proofs.Referred.{OfCell}
-use Rattle.processor.proofs.Whole.{EndingOfCell, run_of_cell}
+use Rattle.processor.specs.Reports.{OfCell}
+use Rattle.processor.specs.Run.{EndingOfCell}
+use Rattle.processor.proofs.Whole.{run_of_cell}
 use Rattle.processor.specs.declared.outcome.Ran.{Ran}
 use Rattle.processor.specs.declared.report.Report.{Report}
 use Rattle.engine.specs.declared.answer.Answer.{Answer}

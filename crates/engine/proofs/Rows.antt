@@ -3,7 +3,7 @@ use Rattle.std.proofs.Common.{ℕ, ◌≡◌, ◌+◌, ◌-◌, ◌≤◌, List,
 use Rattle.std.proofs.lemmas.List.{length-take, length-drop, length-take-le, take_at, drop_at, drop-take, take-append-drop, take-take, drop-drop}
 use Rattle.std.proofs.lemmas.Slice.{drop-append-drop}
 use Rattle.store.specs.Cells.{Cell}
-use Rattle.engine.specs.Installation.{words_in, row_with}
+use Rattle.processor.specs.Limits.{words_in, row_with}
 
 -- words that lie in front of a place are those of the cells in front of it
 in_front : (row : List Cell) (l k m : ℕ) → k + m ≤ l → take m (drop k (take l row)) ≡ take m (drop k row)

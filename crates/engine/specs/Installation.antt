@@ -1,6 +1,7 @@
 -- An installation: a row of cells, and eight places for workers in it.
-use Rattle.std.specs.Prelude.{ℕ, ◌+◌, List, ◌++◌, take, drop, replicate, nat_le, slice_index_or, slice_set, Result, Ok, Err, Option, Some, None}
+use Rattle.std.specs.Prelude.{ℕ, List, replicate, nat_le, slice_index_or, slice_set, Result, Ok, Err, Option, Some, None}
 use Rattle.store.specs.Cells.{Cell}
+use Rattle.processor.specs.Limits.{words_in, row_with}
 use Rattle.processor.specs.Then.{◌>>=◌}
 use Rattle.engine.specs.declared.answer.Answer.{Answer}
 use Rattle.engine.specs.declared.answer.State.{State}
@@ -41,14 +42,6 @@ span_in (Some w) = Some w.span
 
 abbrev pub worker_at : Installation → ℕ → Option Worker
 worker_at i p = worker_of (place_at i.places p)
-
--- the words of so many cells of a row, from a lower limit on
-abbrev pub words_in : List Cell → (lower length : ℕ) → List Cell
-words_in row lower n = take n (drop lower row)
-
--- the row with other words there
-abbrev pub row_with : List Cell → (lower length : ℕ) → List Cell → List Cell
-row_with row lower n words = take lower row ++ words ++ drop (lower + n) row
 
 -- where a worker lies, and what it has of its own
 pub record Holder : Type 0 where

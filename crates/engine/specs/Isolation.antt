@@ -9,7 +9,8 @@ use Rattle.engine.specs.declared.call.Call.TheVariants as call
 use Rattle.engine.specs.declared.call.Request.TheVariants as request
 use Rattle.engine.specs.declared.call.Terms.{Terms}
 use Rattle.engine.specs.Exchanges.{Exchange, calls_in, answers_in, exchanges, after, exchanges_with, ends_by_retire}
-use Rattle.engine.specs.Installation.{Installation, made, words_in, Done}
+use Rattle.processor.specs.Limits.{words_in}
+use Rattle.engine.specs.Installation.{Installation, made, Done}
 use Rattle.engine.specs.Performing.{performed}
 
 -- a history in which a worker is admitted: the row at the making, the calls before the admit, the lower limit that the admit gives, and the calls after it

@@ -29,6 +29,16 @@ step_length : (m : Machine) → (machine_after (step m)).length ≡ m.length
 unfolding step
 step_length m = stepped_length m (tried m)
 
+-- the machine after a step, by the row and the registers after it
+module _ (row : List Cell) (l : Limits) (r : Registers) where
+  abbrev after : Machine
+  after = machine_after (step (machine_in row l r))
+
+  pub machine_next : (row_next : List Cell) (later : Registers) → later ≡ after.registers → Becomes row l after.words row_next → after ≡ machine_in row_next l later
+  machine_next row_next later registers words =
+      let same : after.length ≡ l.length = step_length (machine_in row l r) in
+      rw (registers, words.there) (ap (λ n. record { length = n; registers = after.registers; words = after.words }) same)
+
 -- the first step of a run
 one_step : (s : Stepped) (rest : Machine → Outcome) → answer_of s ≡ Ok tt → run_on s rest ≡ one_more (rest (machine_after s))
 one_step (completed m) rest is = refl
@@ -65,19 +75,13 @@ module _ (row : List Cell) (l : Limits) (r : Registers) (budget : ℕ) where
     abbrev next : Stepped
     next = step m
 
-    -- the machine after a step, by the row and the registers after it
-    machine_next : (row_next : List Cell) (later : Registers) → later ≡ (machine_after next).registers → Becomes row_now l (machine_after next).words row_next → machine_after next ≡ machine_in row_next l later
-    machine_next row_next later registers words =
-        let same : (machine_after next).length ≡ l.length = step_length m in
-        rw (registers, words.there) (ap (λ n. record { length = n; registers = (machine_after next).registers; words = (machine_after next).words }) same)
-
     pub goes_on : (row_next : List Cell) (later : Registers) → done < budget → answer_of next ≡ Ok tt → later ≡ (machine_after next).registers → Becomes row_now l (machine_after next).words row_next → Going row l r budget (done + 1) row_next later
     unfolding run
     goes_on row_next later more on registers words =
         let first : budget - done ≡ suc (budget - (done + 1)) = omega (arith, more) in
         let o = run (budget - (done + 1)) (machine_in row_next l later) in
         let same : run (budget - done) m ≡ one_more o =
-        rw first (one_step next (run (budget - (done + 1))) on ∙ ap (λ n. one_more (run (budget - (done + 1)) n)) (machine_next row_next later registers words)) in
+        rw first (one_step next (run (budget - (done + 1))) on ∙ ap (λ n. one_more (run (budget - (done + 1)) n)) (machine_next row_now l now row_next later registers words)) in
         record { to_come = counted o.told.ending o.machine (done + 1 + o.told.steps) (done + suc o.told.steps) (omega arith) ∙ ap (after_steps done) (sym same) ∙ going.to_come; only_words = becomes_then row l row_now _ row_next going.only_words (rw words.there words) }
 
     pub ends : (report : Report) → done < budget → answer_of next ≡ Err report → run budget (machine_in row l r) ≡ record { told = record { steps = done + 1; ending = Interrupted report }; machine = machine_after next }

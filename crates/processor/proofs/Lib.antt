@@ -1,5 +1,6 @@
 mod Between
 mod Chosen
+mod Doing
 mod EffectsFit
 pub mod Failed
 pub mod Faults

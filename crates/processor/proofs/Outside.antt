@@ -5,7 +5,7 @@ use Rattle.store.specs.Cells.{Cell, cell_at}
 use Rattle.processor.specs.Limits.{Limits, Becomes, KeepsOtherCells, between, row_with}
 use Rattle.processor.proofs.Between.{becomes_row, row_again}
 
-parts_number : (row : List Cell) (l : Limits) (words : List Cell) → length (row_with row l words) ≡ length (take l.lower row) + length words + length (drop (l.lower + l.length) row)
+parts_number : (row : List Cell) (l : Limits) (words : List Cell) → length (row_with row l.lower l.length words) ≡ length (take l.lower row) + length words + length (drop (l.lower + l.length) row)
 parts_number row l words = grind (arith, length-append (take l.lower row ++ words) (drop (l.lower + l.length) row), length-append (take l.lower row) words)
 
 module _ (row : List Cell) (l : Limits) (words after : List Cell) (becomes : Becomes row l words after) where

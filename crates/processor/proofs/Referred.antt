@@ -16,16 +16,12 @@ use Rattle.processor.specs.declared.fields.Fields.{Fields}
 use Rattle.processor.specs.Machine.{Machine}
 use Rattle.processor.specs.Operands.{effective, lower_read, upper_read, extension, operand}
 use Rattle.processor.specs.References.{fetch, parity_tried, read, refer}
-use Rattle.processor.specs.Reports.{fault_of}
+use Rattle.processor.specs.Reports.{OfCell}
 use Rattle.processor.proofs.Chosen.{of_eight}
 use Rattle.processor.proofs.Failed.{then_err}
 use Rattle.processor.proofs.Faults.{FaultOfCell, fetched_of_cell, put_whole_of_cell, put_half_of_cell}
 
--- a report does not tell that the store has no cell
-abbrev pub OfCell : Report → Type 0
-OfCell report = fault_of report ≡ Some NoCell → ⊥
-
--- nor does the report that a result is, if it is one
+-- the report that a result is, if it is one, does not tell that the store has no cell
 abbrev pub ReportOfCell : {X : Type 0} → Result X Report → Type 0
 ReportOfCell r = IfErr r OfCell
 

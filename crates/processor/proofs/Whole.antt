@@ -1,11 +1,9 @@
 -- A machine that has as many words as its length goes on to have them, and no report of its run tells that the store has no cell.
 use Rattle.std.proofs.Common.{ℕ, zero, suc, ◌≤◌, ◌==◌, ◌%◌, length, arith, Option, Some, None, Result, Ok, Err}
-use Rattle.std.specs.Prelude.{nat_lt, ⊤}
+use Rattle.std.specs.Prelude.{IfErr, nat_lt}
 use Rattle.std.specs.Int.{bit_at}
 use Rattle.processor.specs.declared.operation.Operation.{Operation}
 use Rattle.processor.specs.declared.operation.Operation.TheVariants as op
-use Rattle.processor.specs.declared.outcome.Ending.{Ending}
-use Rattle.processor.specs.declared.outcome.Ending.TheVariants.{Spent, Interrupted}
 use Rattle.processor.specs.declared.report.Report.{Report}
 use Rattle.processor.specs.Effects.{Effect, puts_tried}
 use Rattle.processor.specs.declared.fields.Fields.{Fields}
@@ -15,14 +13,15 @@ use Rattle.processor.specs.Machine.{Machine}
 use Rattle.processor.specs.Operands.{effective, operand}
 use Rattle.processor.specs.References.{fetch, read}
 use Rattle.processor.specs.Repertoire.{operation_of}
-use Rattle.processor.specs.Run.{Outcome, run, run_on}
+use Rattle.processor.specs.Reports.{OfCell}
+use Rattle.processor.specs.Run.{EndingOfCell, Outcome, run, run_on}
 use Rattle.processor.specs.Shifts.{count_of}
-use Rattle.processor.specs.Step.{Stepped, completed, interrupted, effect_of, effect_if, instruction_effect, step, stepped, tried}
+use Rattle.processor.specs.Step.{Stepped, completed, interrupted, answer_of, effect_of, effect_if, instruction_effect, step, stepped, tried}
 use Rattle.processor.specs.Transfers.{enter_b}
 use Rattle.processor.proofs.Chosen.{of_two}
 use Rattle.processor.proofs.Failed.{then_err}
 use Rattle.processor.proofs.Kept.{puts_kept}
-use Rattle.processor.proofs.Referred.{OfCell, Whole, ReportOfCell, no_fault, fetch_of_cell, read_of_cell, puts_of_cell, operand_of_cell}
+use Rattle.processor.proofs.Referred.{Whole, ReportOfCell, no_fault, fetch_of_cell, read_of_cell, puts_of_cell, operand_of_cell}
 
 -- no instruction's report tells it
 module _ (m : Machine) (all : Whole m) where
@@ -95,11 +94,15 @@ step_of_cell : (m : Machine) → Whole m → StepOfCell (step m)
 unfolding step
 step_of_cell m all = stepped_of_cell m (tried m) all (tried_of_cell m all)
 
--- nor does the report of a run that was interrupted
-abbrev pub EndingOfCell : Ending → Type 0
-EndingOfCell Spent = ⊤
-EndingOfCell (Interrupted report) = OfCell report
+-- so what a step answers
+answer_of_cell : (s : Stepped) → StepOfCell s → IfErr (answer_of s) OfCell
+answer_of_cell (completed after) all = tt
+answer_of_cell (interrupted report after) there = there
 
+pub step_answer_of_cell : (m : Machine) → Whole m → IfErr (answer_of (step m)) OfCell
+step_answer_of_cell m all = answer_of_cell (step m) (step_of_cell m all)
+
+-- nor does the report of a run that was interrupted
 run_on_of_cell : (s : Stepped) (rest : Machine → Outcome) → ((n : Machine) → Whole n → EndingOfCell (rest n).told.ending) → StepOfCell s → EndingOfCell (run_on s rest).told.ending
 run_on_of_cell (completed after) rest later all = later after all
 run_on_of_cell (interrupted report after) rest later there = there

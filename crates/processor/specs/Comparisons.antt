@@ -19,13 +19,14 @@ compare_masked m i = do
   y ← operand m i
   let r = m.registers in Ok (leaving r (skip_if (skip_met i.j (difference r.a (product y r.q)) r.q)))
 
--- a skip by a test on A over Q and two words, the first over the second
+-- the words at ȳ and after it as one number, the first over the second
 abbrev pub double_read : Machine → Fields → Result ℕ Report
 double_read m i = do
   first ← read m (effective m.registers i)
   second ← read m (further m.registers i 1)
   Ok (over first second)
 
+-- a skip by a test on A over Q and that number
 abbrev pub compare_aq : (ℕ → ℕ → Bool) → Machine → Fields → Result Effect Report
 compare_aq test m i = do
   other ← double_read m i

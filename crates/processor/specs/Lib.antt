@@ -1,3 +1,4 @@
+pub mod Beneath
 pub mod Comparisons
 pub mod Computations
 pub mod Digits

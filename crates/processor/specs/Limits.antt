@@ -16,13 +16,17 @@ most_words = 32768
 abbrev pub Bounded : Limits → Type 0
 Bounded l = (l.length ≤ most_words) × (l.lower + l.length ≤ most_cells)
 
--- the words between them, of the cells of a row
-abbrev pub between : List Cell → Limits → List Cell
-between row l = take l.length (drop l.lower row)
+-- the words of so many cells of a row, from a lower limit on
+abbrev pub words_in : List Cell → (lower length : ℕ) → List Cell
+words_in row lower n = take n (drop lower row)
 
 -- the row with other words there
-abbrev pub row_with : List Cell → Limits → List Cell → List Cell
-row_with row l words = take l.lower row ++ words ++ drop (l.lower + l.length) row
+abbrev pub row_with : List Cell → (lower length : ℕ) → List Cell → List Cell
+row_with row lower n words = take lower row ++ words ++ drop (lower + n) row
+
+-- the words between limits
+abbrev pub between : List Cell → Limits → List Cell
+between row l = words_in row l.lower l.length
 
 -- the machine of the worker that has these limits and registers
 abbrev pub machine_in : List Cell → Limits → Registers → Machine

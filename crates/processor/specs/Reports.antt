@@ -1,6 +1,7 @@
 -- What a report tells of an interrupt.
-use Rattle.std.specs.Prelude.{ℕ, ◌+◌, Option, Some, None}
+use Rattle.std.specs.Prelude.{◌≡◌, ℕ, ◌+◌, Option, Some, None}
 use Rattle.store.specs.declared.fault.Fault.{Fault}
+use Rattle.store.specs.declared.fault.Fault.TheVariants.{NoCell}
 use Rattle.processor.specs.declared.address.RelativeAddress.{RelativeAddress}
 use Rattle.processor.specs.declared.report.Cause.{Cause}
 use Rattle.processor.specs.declared.report.Cause.TheVariants as cause
@@ -50,6 +51,10 @@ fault_of (Protection reference) = None
 fault_of (Parity reference fault) = Some fault
 fault_of (ExecutiveReturn r) = None
 fault_of (TestAndSet r) = None
+
+-- a report does not tell that the store has no such cell
+abbrev pub OfCell : Report → Type 0
+OfCell report = fault_of report ≡ Some NoCell → ⊥
 
 -- all that a report tells
 pub record Told : Type 0 where

@@ -1,10 +1,11 @@
 -- A run: steps until the budget is spent or one interrupts.
-use Rattle.std.specs.Prelude.{◌≡◌, ℕ, zero, suc, ◌≤◌, Option, Some, None}
+use Rattle.std.specs.Prelude.{◌≡◌, ℕ, zero, suc, ◌≤◌, Option, Some, None, ⊤}
 use Rattle.processor.specs.declared.outcome.Ending.{Ending}
 use Rattle.processor.specs.declared.outcome.Ending.TheVariants.{Spent, Interrupted}
 use Rattle.processor.specs.declared.outcome.Ran.{Ran}
 use Rattle.processor.specs.declared.report.Report.{Report}
 use Rattle.processor.specs.Machine.{Machine}
+use Rattle.processor.specs.Reports.{OfCell}
 use Rattle.processor.specs.Step.{Stepped, completed, interrupted, step}
 
 -- the report of the interrupt that ended a run, if one did
@@ -12,10 +13,15 @@ abbrev pub report_of : Ending → Option Report
 report_of Spent = None
 report_of (Interrupted report) = Some report
 
--- a run is done by as many steps as the budget has, and one that is interrupted by at least one and no more
+-- a run is spent after as many steps as the budget has, and interrupted after at least one and at most so many
 abbrev pub StepsOf : Ending → (steps budget : ℕ) → Type 0
 StepsOf Spent steps budget = steps ≡ budget
 StepsOf (Interrupted report) steps budget = (1 ≤ steps) × (steps ≤ budget)
+
+-- the report of a run that was interrupted, if it was, does not tell that the store has no such cell
+abbrev pub EndingOfCell : Ending → Type 0
+EndingOfCell Spent = ⊤
+EndingOfCell (Interrupted report) = OfCell report
 
 -- what is told of the run, and the machine after it
 pub record Outcome : Type 0 where

@@ -6,7 +6,7 @@ ghost use Rattle.processor.specs.Limits.{machine_in};
 ghost use Rattle.processor.specs.Results.{effected};
 ghost use Rattle.processor.specs.Skips.{computed_skip_met};
 
-use super::effect::{Done, Next, Puts};
+use super::effect::{Next, Pending, Puts};
 use super::fields::Fields;
 use super::references::Words;
 use super::{Computation, Report};
@@ -17,7 +17,7 @@ use words::{Word, word_bits};
 impl Computation {
     // The new A, of the old A, Q and Y.
     #[tactic(auto, unfolding(crate::specs::Computations::computed))]
-    fn of(self, a: Word, q: Word, y: Word) -> Word
+    fn computed(self, a: Word, q: Word, y: Word) -> Word
         ensures { result ≡ computed self a q y }
     {
         match self {
@@ -40,12 +40,12 @@ impl Computation {
         ensures value { result ≡ registers.new.a }
         ensures after { registers.new ≡ with_computed self registers.old y }
     {
-        let a = self.of(registers.a(), registers.q(), y);
+        let a = self.computed(registers.a(), registers.q(), y);
         registers.set_a(a);
         a
     }
 
-    fn next(self, j: u8, registers: &Registers) -> Next
+    fn next_by(self, j: u8, registers: &Registers) -> Next
         ensures { result ≡ skip_if (computed_skip_met self j registers.now.a registers.now.q) }
     {
         Next::skip_if(self.skip_met(j, registers.a(), registers.q()))
@@ -58,12 +58,12 @@ pub(crate) fn compute<S: Store>(
     words: &Words<'_, S>,
     registers: &mut Registers,
     i: &Fields,
-) -> Result<Done, Report>
+) -> Result<Pending, Report>
     ensures { effected registers.new result ≡ compute computation (machine_in (S.cells words.now.store.now) words.now.limits registers.old) i.now }
 {
     let y = words.operand(registers, i)?;
     computation.compute_in(registers, y);
-    Ok(Done::only(computation.next(i.j, registers)))
+    Ok(Pending::only(computation.next_by(i.j, registers)))
 }
 
 // The same, and the new A is stored by k where Y was read.
@@ -72,14 +72,14 @@ pub(crate) fn replace<S: Store>(
     words: &Words<'_, S>,
     registers: &mut Registers,
     i: &Fields,
-) -> Result<Done, Report>
+) -> Result<Pending, Report>
     ensures { effected registers.new result ≡ replace computation (machine_in (S.cells words.now.store.now) words.now.limits registers.old) i.now }
 {
     let at = i.effective(registers);
     let y = words.operand(registers, i)?;
     let a = computation.compute_in(registers, y);
-    Ok(Done {
+    Ok(Pending {
         puts: Puts::stored(i.k, at, a, a),
-        next: computation.next(i.j, registers),
+        next: computation.next_by(i.j, registers),
     })
 }

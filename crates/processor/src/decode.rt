@@ -88,7 +88,7 @@ fn with_f(f: u8) -> Option<Operation>
     })
 }
 
-// And where it is.
+// The operation of a g, where f is 77.
 fn with_g(g: u32) -> Option<Operation>
     ensures { result ≡ with_code g instructions_77 }
 {

@@ -34,9 +34,9 @@ pub(crate) enum Next {
     Jumping(HalfWord),
 }
 
-// What an instruction leaves to be done.
+// What an instruction leaves to be done: its puts, and the next P.
 #[derive(Clone, Copy, Debug, PartialEq, Eq)]
-pub(crate) struct Done {
+pub(crate) struct Pending {
     pub(crate) puts: Puts,
     pub(crate) next: Next,
 }
@@ -67,31 +67,31 @@ impl Puts {
     }
 }
 
-impl Done {
+impl Pending {
     // Nothing put.
-    pub(crate) fn only(next: Next) -> Done
+    pub(crate) fn only(next: Next) -> Pending
         ensures { result ≡ record { puts = Nothing; next = next } }
     {
-        Done {
+        Pending {
             puts: Puts::Nothing,
             next,
         }
     }
 
     // These put, and a skip by j.
-    pub(crate) fn with_skip(puts: Puts, j: u8, registers: &Registers) -> Done
+    pub(crate) fn with_skip(puts: Puts, j: u8, registers: &Registers) -> Pending
         ensures { result ≡ record { puts = puts; next = skip_if (skip_met j registers.now.a registers.now.q) } }
     {
-        Done {
+        Pending {
             puts,
             next: Next::skip_if(skip_met(j, registers.a(), registers.q())),
         }
     }
 
     // Nothing put, and a skip by j.
-    pub(crate) fn skipping(j: u8, registers: &Registers) -> Done
+    pub(crate) fn skipping(j: u8, registers: &Registers) -> Pending
         ensures { result ≡ record { puts = Nothing; next = skip_if (skip_met j registers.now.a registers.now.q) } }
     {
-        Done::with_skip(Puts::Nothing, j, registers)
+        Pending::with_skip(Puts::Nothing, j, registers)
     }
 }

@@ -5,7 +5,7 @@ ghost use Rattle.processor.specs.Limits.{machine_in};
 ghost use Rattle.processor.specs.Results.{effected};
 
 use super::Report;
-use super::effect::{Done, Next, Put, Puts};
+use super::effect::{Next, Pending, Put, Puts};
 use super::fields::Fields;
 use super::references::Words;
 use records::Registers;
@@ -24,7 +24,7 @@ pub(crate) fn test_and_set<S: Store>(
     words: &Words<'_, S>,
     registers: &Registers,
     i: &Fields,
-) -> Result<Done, Report>
+) -> Result<Pending, Report>
     ensures { effected registers.now result ≡ test_and_set (machine_in (S.cells words.now.store.now) words.now.limits registers.now) i.now }
 {
     let at = i.effective(registers);
@@ -32,7 +32,7 @@ pub(crate) fn test_and_set<S: Store>(
     if (word.get() >> 14) % 2 == 1 {
         return Err(Report::TestAndSet(at));
     }
-    Ok(Done {
+    Ok(Pending {
         puts: Puts::One(Put::Half(at, Half::Lower, half_bits(0o77777))),
         next: Next::Onward,
     })

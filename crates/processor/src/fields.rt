@@ -1,4 +1,4 @@
-// The fields of an instruction: the function code f, j, k, the index register b, and the address y.
+// The fields of an instruction: the function code f, j, k, the index register b, and the address y. Of a word, f is below 64, and j, k and b are below 8.
 use words::HalfWord;
 
 #[derive(Clone, Copy, Debug, PartialEq, Eq)]

@@ -8,7 +8,7 @@ use super::comparisons::{
     compare_aq_equal, compare_aq_less, compare_masked, masked_equal, masked_less,
 };
 use super::computations::{compute, replace};
-use super::effect::Done;
+use super::effect::Pending;
 use super::executive::{executive_return, test_and_set};
 use super::fields::Fields;
 use super::jumps::{jump, jump_on_b, return_jump, skip_on_b};
@@ -28,7 +28,7 @@ fn effect_of<S: Store>(
     words: &Words<'_, S>,
     registers: &mut Registers,
     i: &Fields,
-) -> Result<Done, Report>
+) -> Result<Pending, Report>
     ensures { effected registers.new result ≡ effect_of operation (machine_in (S.cells words.now.store.now) words.now.limits registers.old) i.now }
 {
     match operation {
@@ -66,13 +66,13 @@ fn effect_of<S: Store>(
     }
 }
 
-// Of a legal instruction; any other is illegal.
+// What a legal instruction comes to; any other is illegal.
 #[tactic(auto, unfolding(crate::specs::Step::instruction_effect))]
 pub(crate) fn instruction_effect<S: Store>(
     words: &Words<'_, S>,
     registers: &mut Registers,
     i: &Fields,
-) -> Result<Done, Report>
+) -> Result<Pending, Report>
     ensures { effected registers.new result ≡ instruction_effect (machine_in (S.cells words.now.store.now) words.now.limits registers.old) i.now }
 {
     match i.operation() {

@@ -5,7 +5,7 @@ ghost use Rattle.processor.specs.Limits.{machine_in};
 ghost use Rattle.processor.specs.Results.{effect, effected};
 ghost use Rattle.processor.specs.Skips.{skip_met};
 
-use super::effect::{Done, Next, Put, Puts};
+use super::effect::{Next, Pending, Put, Puts};
 use super::fields::Fields;
 use super::references::Words;
 use super::skips::skip_met;
@@ -36,11 +36,11 @@ pub(crate) fn jump<S: Store>(
     words: &Words<'_, S>,
     registers: &Registers,
     i: &Fields,
-) -> Result<Done, Report>
+) -> Result<Pending, Report>
     ensures { effected registers.now result ≡ jump (machine_in (S.cells words.now.store.now) words.now.limits registers.now) i.now }
 {
     let target = target(words, registers, i)?;
-    Ok(Done::only(if jump_met(registers, i) {
+    Ok(Pending::only(if jump_met(registers, i) {
         Next::Jumping(target)
     } else {
         Next::Onward
@@ -48,12 +48,12 @@ pub(crate) fn jump<S: Store>(
 }
 
 // P + 1 goes to the lower half of the word at the target, and the program goes on after that word, both modulo 32,768.
-fn returning(registers: &Registers, target: HalfWord) -> Done
+fn returning(registers: &Registers, target: HalfWord) -> Pending
     ensures { effect registers.now result ≡ returning registers.now target }
 {
     let back = half_bits(registers.p() + 1);
     let at = RelativeAddress(target.get());
-    Done {
+    Pending {
         puts: Puts::One(Put::Half(at, Half::Lower, back)),
         next: Next::Jumping(half_bits(target.get() + 1)),
     }
@@ -64,29 +64,29 @@ pub(crate) fn return_jump<S: Store>(
     words: &Words<'_, S>,
     registers: &Registers,
     i: &Fields,
-) -> Result<Done, Report>
+) -> Result<Pending, Report>
     ensures { effected registers.now result ≡ return_jump (machine_in (S.cells words.now.store.now) words.now.limits registers.now) i.now }
 {
     let target = target(words, registers, i)?;
     Ok(if jump_met(registers, i) {
         returning(registers, target)
     } else {
-        Done::only(Next::Onward)
+        Pending::only(Next::Onward)
     })
 }
 
-// Bj counts up, modulo 32,768, until it is the lowest 15 bits of Y; then it starts again from 0, and the program skips.
+// Bj counts up, modulo 32,768, until it is the lowest 15 bits of Y; then it starts again from 0, and the program skips. `set_b` drops the carry.
 pub(crate) fn skip_on_b<S: Store>(
     words: &Words<'_, S>,
     registers: &mut Registers,
     i: &Fields,
-) -> Result<Done, Report>
+) -> Result<Pending, Report>
     ensures { effected registers.new result ≡ skip_on_b (machine_in (S.cells words.now.store.now) words.now.limits registers.old) i.now }
 {
     let target = target(words, registers, i)?;
     let j = i.j.into();
     let b = registers.b(j);
-    Ok(Done::only(if b == target.get() {
+    Ok(Pending::only(if b == target.get() {
         registers.set_b(j, 0);
         Next::Skipping
     } else {
@@ -100,13 +100,13 @@ pub(crate) fn jump_on_b<S: Store>(
     words: &Words<'_, S>,
     registers: &mut Registers,
     i: &Fields,
-) -> Result<Done, Report>
+) -> Result<Pending, Report>
     ensures { effected registers.new result ≡ jump_on_b (machine_in (S.cells words.now.store.now) words.now.limits registers.old) i.now }
 {
     let target = target(words, registers, i)?;
     let j = i.j.into();
     let b = registers.b(j);
-    Ok(Done::only(if b == 0 {
+    Ok(Pending::only(if b == 0 {
         Next::Onward
     } else {
         registers.set_b(j, b - 1);

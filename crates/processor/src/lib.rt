@@ -26,7 +26,7 @@ mod writing;
 
 pub use address::RelativeAddress;
 pub use limits::Limits;
-pub use operation::{Computation, Operation, Shifted};
+use operation::{Computation, Operation, Shifted};
 pub use outcome::{Ending, Ran};
 pub use report::{Cause, Reference, ReferenceKind, Report};
 pub use running::run;

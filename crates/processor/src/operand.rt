@@ -39,14 +39,14 @@ impl<S: Store> Words<'_, S> {
     pub(crate) fn operand(&self, registers: &Registers, i: &Fields) -> Result<Word, Report>
         ensures { result ≡ operand (machine_in (S.cells self.now.store.now) self.now.limits registers.now) i.now }
     {
-        let y = i.effective_half(registers);
-        let at = i.effective(registers);
+        let effective = i.effective_half(registers);
+        let at = RelativeAddress(effective.get());
         Ok(match i.k {
-            0 => y.with_zeros(),
+            0 => effective.with_zeros(),
             1 => self.read(at)?.lower_half().with_zeros(),
             2 => self.read(at)?.upper_half().with_zeros(),
             3 => self.read(at)?,
-            4 => y.extended(),
+            4 => effective.extended(),
             5 => self.read(at)?.lower_half().extended(),
             6 => self.read(at)?.upper_half().extended(),
             _ => registers.a(),

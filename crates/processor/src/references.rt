@@ -68,11 +68,18 @@ pub(crate) fn named<T>(
 // The words of a worker, to be read: a store, and where in it they lie.
 #[derive(Drop)]
 pub(crate) struct Words<'a, S> {
-    pub(crate) store: &'a S,
-    pub(crate) limits: Limits,
+    store: &'a S,
+    limits: Limits,
 }
 
-impl<S: Store> Words<'_, S> {
+impl<'a, S: Store> Words<'a, S> {
+    pub(crate) fn new(store: &'a S, limits: Limits) -> Words<'a, S>
+        ensures store { result.store.now ≡ store.now }
+        ensures limits { result.limits ≡ limits }
+    {
+        Words { store, limits }
+    }
+
     // The word at an address, tried for protection and then for parity.
     #[tactic(auto, using(crate::proofs::Between::fetched_between))]
     fn word(&self, address: RelativeAddress) -> Result<Word, ReferenceFault>

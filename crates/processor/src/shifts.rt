@@ -4,7 +4,7 @@ ghost use Rattle.processor.specs.Limits.{machine_in};
 ghost use Rattle.processor.specs.Results.{effect, effected};
 ghost use Rattle.processor.specs.Shifts.{count_of, scale, shift_by_operand, shift_of, shift_right_logical, shifted};
 
-use super::effect::{Done, Next};
+use super::effect::{Next, Pending};
 use super::fields::Fields;
 use super::references::Words;
 use super::skips::skip_met;
@@ -43,7 +43,7 @@ impl Shift {
     }
 
     // Does it to the registers that it moves.
-    fn shift(self, which: Shifted, registers: &mut Registers, count: u32)
+    fn apply(self, which: Shifted, registers: &mut Registers, count: u32)
         ensures { registers.new ≡ shifted self which registers.old count }
     {
         match which {
@@ -77,13 +77,13 @@ pub(crate) fn shift_by_operand<S: Store>(
     words: &Words<'_, S>,
     registers: &mut Registers,
     i: &Fields,
-) -> Result<Done, Report>
+) -> Result<Pending, Report>
     ensures { effected registers.new result ≡ shift_by_operand shift which (machine_in (S.cells words.now.store.now) words.now.limits registers.old) i.now }
 {
     let y = words.operand(registers, i)?;
     let count = count_of(registers, y.get())?;
-    shift.shift(which, registers, count);
-    Ok(Done::skipping(i.j, registers))
+    shift.apply(which, registers, count);
+    Ok(Pending::skipping(i.j, registers))
 }
 
 // To the right by ȳ, filled with zeros.
@@ -91,20 +91,20 @@ pub(crate) fn shift_right_logical(
     which: Shifted,
     registers: &mut Registers,
     i: &Fields,
-) -> Result<Done, Report>
+) -> Result<Pending, Report>
     ensures { effected registers.new result ≡ shift_right_logical which registers.old i.now }
 {
     let count = count_of(registers, i.effective(registers).0)?;
-    Shift::RightWithZeros.shift(which, registers, count);
-    Ok(Done::only(Next::Onward))
+    Shift::RightWithZeros.apply(which, registers, count);
+    Ok(Pending::only(Next::Onward))
 }
 
 // A turned by its scale factor, and that in Q.
-pub(crate) fn scale(registers: &mut Registers) -> Done
+pub(crate) fn scale(registers: &mut Registers) -> Pending
     ensures { effect registers.new result ≡ scale registers.old }
 {
     let scaled = registers.a().scaled();
     registers.set_a(scaled.word);
     registers.set_q(word_bits(scaled.count));
-    Done::only(Next::Onward)
+    Pending::only(Next::Onward)
 }

@@ -1,14 +1,15 @@
 // One step: the instruction at P, done whole or not at all.
-ghost use Rattle.std.specs.Prelude.{◌≡◌, ◌<◌, ◌^◌, length, OnErr};
+ghost use Rattle.std.specs.Prelude.{◌≡◌, ◌+◌, ◌<◌, ◌≤◌, ◌^◌, length, IfErr, OnErr};
 ghost use Rattle.records.specs.Registers.{Fits, with_p};
 ghost use Rattle.processor.specs.Effects.{next_p};
+ghost use Rattle.processor.specs.Beneath.{PutsDo, step_puts};
 ghost use Rattle.processor.specs.Limits.{Becomes, Bounded, KeepsOtherCells, between, machine_in, row_with};
 ghost use Rattle.processor.specs.Placed.{step_in};
-ghost use Rattle.processor.specs.Reports.{p_after, p_after_protection};
-ghost use Rattle.processor.specs.Results.{effected, words_left};
+ghost use Rattle.processor.specs.Reports.{OfCell, p_after, p_after_protection};
+ghost use Rattle.processor.specs.Results.{effected, puts_left, words_left};
 ghost use Rattle.processor.specs.Step.{answer_of, machine_after, tried};
 
-use super::effect::{Done, Next};
+use super::effect::{Next, Pending};
 use super::fields::Fields;
 use super::guard::Guard;
 use super::instruction::instruction_effect;
@@ -52,16 +53,14 @@ fn attempt<S: Store>(
     store: &mut S,
     limits: Limits,
     registers: &mut Registers,
-) -> Result<Done, Report>
+) -> Result<Pending, Report>
     ensures tried { effected registers.new result ≡ tried (machine_in (S.cells store.old) limits registers.old) }
     ensures words { Becomes (S.cells store.old) limits (words_left (between (S.cells store.old) limits) result) (S.cells store.new) }
     ensures bounded { Bounded limits }
+    ensures does { PutsDo S.puts_whole S.puts_half limits (puts_left result) store.old store.new }
     ensures refused { OnErr result (store.new ≡ store.old) }
 {
-    let words = Words {
-        store: &*store,
-        limits,
-    };
+    let words = Words::new(store, limits);
     let word = words.fetch(RelativeAddress(registers.p()))?;
     let done = instruction_effect(&words, registers, &Fields::of(word))?;
     put_all(store, limits, done.puts)?;
@@ -79,6 +78,7 @@ pub(crate) fn guarded_step<S: Store>(
     ensures registers { registers.new ≡ (machine_after (step_in (S.cells store.old) limits registers.old)).registers }
     ensures words { Becomes (S.cells store.old) limits (machine_after (step_in (S.cells store.old) limits registers.old)).words (S.cells store.new) }
     ensures bounded { Bounded limits }
+    ensures does { PutsDo S.puts_whole S.puts_half limits (step_puts (machine_in (S.cells store.old) limits registers.old)) store.old store.new }
     ensures refused { OnErr result (store.new ≡ store.old) }
     ensures fits { Fits registers.old }
 {
@@ -111,12 +111,14 @@ pub fn step<S: Store>(
     ensures answer { result ≡ answer_of (step_in (S.cells store.old) limits registers.old) }
     ensures registers { registers.new ≡ (machine_after (step_in (S.cells store.old) limits registers.old)).registers }
     ensures words { between (S.cells store.new) limits ≡ (machine_after (step_in (S.cells store.old) limits registers.old)).words }
-    ensures row { S.cells store.new ≡ row_with (S.cells store.old) limits (machine_after (step_in (S.cells store.old) limits registers.old)).words }
+    ensures row { S.cells store.new ≡ row_with (S.cells store.old) limits.lower limits.length (machine_after (step_in (S.cells store.old) limits registers.old)).words }
+    ensures store { PutsDo S.puts_whole S.puts_half limits (step_puts (machine_in (S.cells store.old) limits registers.old)) store.old store.new }
+    ensures found { limits.lower + limits.length ≤ length (S.cells store.old) → IfErr result OfCell }
     ensures other_cells { KeepsOtherCells (S.cells store.old) limits (S.cells store.new) }
-    ensures number { length (between (S.cells store.new) limits) ≡ length (between (S.cells store.old) limits) }
+    ensures as_many_words { length (between (S.cells store.new) limits) ≡ length (between (S.cells store.old) limits) }
     ensures widths { Fits registers.new }
-    ensures interrupted { OnErr result (registers.new ≡ with_p registers.old registers.new.p) }
-    ensures refused { OnErr result (store.new ≡ store.old) }
+    ensures interrupted_registers { OnErr result (registers.new ≡ with_p registers.old registers.new.p) }
+    ensures interrupted_store { OnErr result (store.new ≡ store.old) }
 {
     guarded_step(store, limits, registers)
 }

@@ -1,6 +1,7 @@
 // What instructions put: all of it is tried before any of it is done.
-ghost use Rattle.std.specs.Prelude.{◌≡◌, OnErr, is_ok, if◌then◌else◌};
+ghost use Rattle.std.specs.Prelude.{◌≡◌, ◌+◌, OnErr, OnOk, is_ok, if◌then◌else◌};
 ghost use Rattle.store.specs.Functions.{half_put, put_half_answer, put_whole_answer, whole_put};
+ghost use Rattle.processor.specs.Beneath.{PutDoes, PutsDo};
 ghost use Rattle.processor.specs.Effects.{put_done, put_tried, puts_done, puts_tried};
 ghost use Rattle.processor.specs.Limits.{Becomes, between};
 ghost use Rattle.processor.specs.References.{refer};
@@ -15,9 +16,9 @@ use super::{ReferenceKind, RelativeAddress, Report};
 use store::{Fault, Half, Store};
 use words::{HalfWord, Word};
 
-// A whole put: tried, and not done.
+// A whole put fails only where there is no cell.
 #[tactic(auto, using(crate::proofs::Between::exists_between))]
-fn whole_tried<S: Store>(
+fn find_cell<S: Store>(
     store: &S,
     limits: Limits,
     address: RelativeAddress,
@@ -31,13 +32,14 @@ fn whole_tried<S: Store>(
     Ok(())
 }
 
+// Tries a whole put, and does not do it.
 fn try_whole<S: Store>(store: &S, limits: Limits, address: RelativeAddress) -> Result<(), Report>
     ensures { result ≡ refer limits.length Write address.0 (put_whole_answer (between (S.cells store.now) limits) address.0) }
 {
     Ok(named(
         ReferenceKind::Write,
         address,
-        whole_tried(store, limits, address),
+        find_cell(store, limits, address),
     )?)
 }
 
@@ -51,6 +53,7 @@ fn put_whole<S: Store>(
 ) -> Result<(), ReferenceFault>
     ensures answer { result ≡ limits_tried limits.length address.0 (put_whole_answer (between (S.cells store.old) limits) address.0) }
     ensures after { Becomes (S.cells store.old) limits (if is_ok result then whole_put (between (S.cells store.old) limits) address.0 word else between (S.cells store.old) limits) (S.cells store.new) }
+    ensures does { OnOk result (S.puts_whole store.old (limits.lower + address.0) word store.new) }
     ensures refused { OnErr result (store.new ≡ store.old) }
 {
     let cell = limits.cell(address)?;
@@ -67,6 +70,7 @@ fn put_half<S: Store>(
 ) -> Result<(), ReferenceFault>
     ensures answer { result ≡ limits_tried limits.length address.0 (put_half_answer (between (S.cells store.old) limits) address.0 half) }
     ensures after { Becomes (S.cells store.old) limits (if is_ok result then half_put (between (S.cells store.old) limits) address.0 half number else between (S.cells store.old) limits) (S.cells store.new) }
+    ensures does { OnOk result (S.puts_half store.old (limits.lower + address.0) half number store.new) }
     ensures refused { OnErr result (store.new ≡ store.old) }
 {
     let cell = limits.cell(address)?;
@@ -76,6 +80,7 @@ fn put_half<S: Store>(
 fn put<S: Store>(store: &mut S, limits: Limits, put: Put) -> Result<(), Report>
     ensures answer { result ≡ put_tried limits.length (between (S.cells store.old) limits) put }
     ensures after { Becomes (S.cells store.old) limits (if is_ok result then put_done (between (S.cells store.old) limits) put else between (S.cells store.old) limits) (S.cells store.new) }
+    ensures does { OnOk result (PutDoes S.puts_whole S.puts_half limits put store.old store.new) }
     ensures refused { OnErr result (store.new ≡ store.old) }
 {
     match put {
@@ -96,6 +101,7 @@ fn put<S: Store>(store: &mut S, limits: Limits, put: Put) -> Result<(), Report>
 pub(crate) fn put_all<S: Store>(store: &mut S, limits: Limits, puts: Puts) -> Result<(), Report>
     ensures answer { result ≡ puts_tried limits.length (between (S.cells store.old) limits) (puts_of puts) }
     ensures after { Becomes (S.cells store.old) limits (if is_ok result then puts_done (between (S.cells store.old) limits) (puts_of puts) else between (S.cells store.old) limits) (S.cells store.new) }
+    ensures does { OnOk result (PutsDo S.puts_whole S.puts_half limits (puts_of puts) store.old store.new) }
     ensures refused { OnErr result (store.new ≡ store.old) }
 {
     match puts {

@@ -22,7 +22,7 @@ impl Registers {
     pub fn set_b(&mut self, j: u32, number: u32)
         ensures { self.new ≡ with_index self.old j (number % 2 ^ 15) }
     {
-        if let 1..=7 = j {
+        if (1..=7).contains(&j) {
             self.b[j as usize - 1] = number % (1 << 15);
         }
     }

@@ -3,6 +3,7 @@ use Rattle.processor.specs.declared.outcome.Ending.TheVariants.{Spent, Interrupt
 use Rattle.processor.specs.Limits.{machine_in}
 use Rattle.processor.specs.Run.{Outcome, run}
 use Rattle.processor.specs.Step.{machine_after, step}
+use Rattle.processor.proofs.Doing.{completed_all, completes_at, completes_on}
 use Rattle.processor.proofs.Fitting.{step_registers_fit}
 use Rattle.processor.proofs.Going.{becomes_then, ends, goes_on, spent}
 use Rattle.processor.proofs.running.run_steps.Given.{Over}
@@ -15,6 +16,8 @@ loop-done-preserved g c =
     let m = machine_in (cells c.loop-done.store) c.args.limits c.loop-done.registers in (
       goes_on (cells c.args.store.now) c.args.limits c.args.registers.now c.args.budget c.loop-done.done (cells c.loop-done.store) c.loop-done.registers c.loop-done.invariant.0
           (cells c.guarded_step.new.store) c.guarded_step.new.registers c.loop-done-test.true (sym given.answer) given.registers given.words,
+      completes_on g.S.Store.puts_whole g.S.Store.puts_half c.args.limits _ c.args.store.now c.loop-done.store c.guarded_step.new.store c.args.budget c.loop-done.done (cells c.loop-done.store) c.loop-done.registers c.loop-done.invariant.1
+          c.loop-done-test.true given.does (cells c.guarded_step.new.store) c.guarded_step.new.registers (sym given.answer) given.registers given.words,
       λ _. rw given.registers (step_registers_fit m given.bounded.0 given.fits),
     )
 
@@ -39,6 +42,11 @@ returns-in-Err-clause-widths g c =
     let given = c.in-Err.ensures in
     λ _. rw given.registers (step_registers_fit m given.bounded.0 given.fits)
 
+pub returns-in-Err-clause-does : goal.returns-in-Err-clause-does
+returns-in-Err-clause-does g c =
+    completes_at g.S.Store.puts_whole g.S.Store.puts_half c.args.limits _ c.args.store.now c.loop-done.store c.guarded_step.new.store c.args.budget c.loop-done.done (g.S.Store.cells c.loop-done.store) c.loop-done.registers c.loop-done.invariant.1
+    c.loop-done-test.true c.in-Err.ensures.does c.in-Err.report (sym c.in-Err.ensures.answer)
+
 -- and if the budget is spent
 module _ (g : Over) (c : goal.After-loop-done g) where
   all_spent : run c.args.budget (machine_in (g.S.Store.cells c.args.store.now) c.args.limits c.args.registers.now) ≡ record { told = record { steps = c.args.budget; ending = Spent }; machine = machine_in (g.S.Store.cells c.loop-done.store) c.args.limits c.loop-done.registers }
@@ -52,3 +60,7 @@ returns-clause-registers g c = sym (ap (λ (o : Outcome). o.machine.registers) (
 
 pub returns-clause-words : goal.returns-clause-words
 returns-clause-words g c = rw (all_spent g c) c.loop-done.invariant.0.only_words
+
+pub returns-clause-does : goal.returns-clause-does
+returns-clause-does g c =
+    completed_all g.S.Store.puts_whole g.S.Store.puts_half c.args.limits _ c.args.store.now c.loop-done.store c.args.budget c.loop-done.done (machine_in (g.S.Store.cells c.loop-done.store) c.args.limits c.loop-done.registers) c.loop-done.invariant.1 c.loop-done-test.false
