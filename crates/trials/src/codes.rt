@@ -29,24 +29,27 @@ fn other_functions_are_illegal(rt: HostRuntime) -> Result<(), Fail> {
     Ok(())
 }
 
+// The ranges leave out the thirteen codes that there are.
 #[test]
 fn other_codes_of_77_are_illegal(rt: HostRuntime) -> Result<(), Fail> {
-    let legal = [
-        0o21, 0o23, 0o25, 0o27, 0o30, 0o31, 0o51, 0o52, 0o53, 0o54, 0o55, 0o56, 0o57,
+    let ranges: [(u32, u32); 6] = [
+        (0o00, 0o21),
+        (0o22, 0o23),
+        (0o24, 0o25),
+        (0o26, 0o27),
+        (0o32, 0o51),
+        (0o60, 0o100),
     ];
-    let mut tried = 0;
-    for g in 0..0o100 {
-        if !legal.contains(&g) {
+    for (first, end) in ranges {
+        for g in first..end {
             let before = Worker {
                 a: 5,
                 q: 6,
-                ..Worker::doing(0o77_00_0_00005 | g * G, 7)
+                ..Worker::doing(0o77_00_0_00005 | g.wrapping_mul(G), 7)
             };
             before.reports(&rt, illegal(0), 1)?;
-            tried += 1;
         }
     }
-    assert_eq!(rt; tried, 51u64);
     Ok(())
 }
 

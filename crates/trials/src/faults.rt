@@ -82,7 +82,7 @@ fn reads_are_tried(rt: HostRuntime) -> Result<(), Fail> {
         ] {
             doing(instruction, 0o74 + marks).reports(&rt, parity(Read, 5, half), 0)?;
         }
-        // the same at 8 and at 32,767, in which no carry can come
+        // past the length nothing is looked at
         doing(instruction + 3, 7).reports(&rt, protection(Read, 8), 1)?;
         doing(instruction | 0o77777, 7).reports(&rt, protection(Read, 0o77777), 1)?;
     }

@@ -15,7 +15,7 @@ fn doing(instruction: u32, word: u32) -> Worker {
     }
 }
 
-// 0o12 and 0o16 would change B0, the product with −0 is A, and 15 with k = 0 and 7 goes to registers.
+// Neither the spoiled word at 5 nor the missing one at 8 matters. The product of A and Q is 1214121012, and A shifted by 5 is 0024713560.
 #[test]
 fn nothing_is_referred_to(rt: HostRuntime) -> Result<(), Fail> {
     for (instruction, a, q) in [
@@ -137,7 +137,7 @@ fn a_return_jump_reads_and_writes(rt: HostRuntime) -> Result<(), Fail> {
     Ok(())
 }
 
-// A spoiled half is no matter of protection, and a set bit none of a spoiled half.
+// A spoiled half is reported whether or not bit 14 is 1.
 #[test]
 fn a_test_reads_the_whole_cell(rt: HostRuntime) -> Result<(), Fail> {
     for word in [0, 0o40000] {

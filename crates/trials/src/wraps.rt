@@ -73,10 +73,10 @@ impl Wide {
 }
 
 // An instruction, and words at 0, 1, 32,765, 32,766 and 32,767, of which the instruction may be one.
-fn doing(at: usize, instruction: u32) -> Wide {
+fn doing(at: u32, instruction: u32) -> Wide {
     Wide {
         words: [
-            (at, instruction),
+            (at as usize, instruction),
             (0, 0o1111122222),
             (1, 0o3333344444),
             (LAST - 2, 0o0000000045),
@@ -85,7 +85,7 @@ fn doing(at: usize, instruction: u32) -> Wide {
         ],
         a: 0o0000000003,
         q: 0o0000000004,
-        p: at as u32,
+        p: at,
     }
 }
 
@@ -126,7 +126,7 @@ fn the_word_after_the_last_is_the_first(rt: HostRuntime) -> Result<(), Fail> {
 #[test]
 fn p_does_not_wrap(rt: HostRuntime) -> Result<(), Fail> {
     for (instruction, p) in [(0o11_0_0_0_00003, 32_768), (0o11_1_0_0_00003, 32_769)] {
-        let mut before = doing(LAST, instruction);
+        let mut before = doing(LAST as u32, instruction);
         before.words[5] = (LAST, instruction);
         before.steps(&rt, Ok(()), Wide { p, ..before })?;
         let past = Wide { p, ..before };
@@ -139,7 +139,7 @@ fn p_does_not_wrap(rt: HostRuntime) -> Result<(), Fail> {
 // The way back is P + 1, of 15 bits, and so is the target + 1.
 #[test]
 fn a_return_jump_wraps(rt: HostRuntime) -> Result<(), Fail> {
-    let mut before = doing(LAST, 0o64_1_0_0_00001);
+    let mut before = doing(LAST as u32, 0o64_1_0_0_00001);
     before.words[5] = before.words[0];
     let mut after = Wide { p: 2, ..before };
     after.words[2] = (1, 0o3333300000);
