@@ -166,7 +166,7 @@ fn masked_differences_decide(rt: HostRuntime) -> Result<(), Fail> {
     Ok(())
 }
 
-// The other families skip by j too: each row once where the condition holds and once where it does not.
+// The other families skip by j too. The rows have the word, A and Q, before and after.
 #[test]
 fn other_families_skip(rt: HostRuntime) -> Result<(), Fail> {
     for (instruction, before, after, p) in [
@@ -205,6 +205,40 @@ fn other_families_skip(rt: HostRuntime) -> Result<(), Fail> {
         ),
         (0o57_1_3_0_00005, [1, 2, 1], [3, 3, 1], 2),
         (0o57_0_3_0_00005, [1, 2, 1], [3, 3, 1], 1),
+        (
+            0o01_3_0_0_00001,
+            [0, 0, 0o4000000000],
+            [0, 0, 0o6000000000],
+            2,
+        ),
+        (0o03_4_0_0_00001, [0, 1, 0], [0, 0, 0o4000000000], 2),
+        (
+            0o06_7_0_0_00001,
+            [0, 0o2000000000, 0],
+            [0, 0o4000000000, 0],
+            2,
+        ),
+        (
+            0o07_3_0_0_00001,
+            [0, 0, 0o2000000000],
+            [0, 0, 0o4000000000],
+            2,
+        ),
+        (
+            0o25_7_3_0_00005,
+            [3, 2, 0],
+            [0o7777777776, 0o7777777776, 0],
+            2,
+        ),
+        (0o36_6_3_0_00005, [1, 0o4000000000, 0], [2, 2, 0], 2),
+        (0o42_4_3_0_00005, [1, 1, 1], [1, 0, 1], 2),
+        (0o45_5_3_0_00005, [1, 0, 1], [1, 1, 1], 2),
+        (0o51_4_3_0_00005, [1, 1, 0], [1, 0, 0], 2),
+        (0o52_4_3_0_00005, [1, 1, 0], [1, 0, 0], 2),
+        (0o53_5_3_0_00005, [1, 0, 1], [1, 1, 1], 2),
+        (0o54_5_3_0_00005, [1, 0, 0], [1, 1, 0], 2),
+        (0o55_4_3_0_00005, [1, 1, 0], [0, 0, 0], 2),
+        (0o56_4_3_0_00005, [1, 1, 0], [0, 0, 0], 2),
     ] {
         row(&rt, instruction, before, after, p)?;
     }
