@@ -85,12 +85,32 @@ impl Worker {
         ))
     }
 
+    // The step has this answer, and the worker after it is that one.
+    fn ends<R: Abort + Alloc<A = Global>>(
+        &self,
+        rt: &R,
+        answer: Result<(), Report>,
+        after: Worker,
+    ) -> Result<(), Fail> {
+        let (found, found_answer) = self.stepped(rt)?;
+        let [a, q] = [self.a, self.q];
+        let instruction = self.words[0];
+        assert_eq!(rt;
+            found_answer,
+            answer,
+            "at {instruction:o} with A = {a:o} and Q = {q:o}"
+        );
+        assert_eq!(rt;
+            found,
+            after,
+            "at {instruction:o} with A = {a:o} and Q = {q:o}"
+        );
+        Ok(())
+    }
+
     // The step is done, and this is the worker after it.
     pub fn becomes<R: Abort + Alloc<A = Global>>(&self, rt: &R, after: Worker) -> Result<(), Fail> {
-        let (found, answer) = self.stepped(rt)?;
-        assert_eq!(rt; answer, Ok(()), "at {:o}", self.words[0]);
-        assert_eq!(rt; found, after, "at {:o}", self.words[0]);
-        Ok(())
+        self.ends(rt, Ok(()), after)
     }
 
     // The step interrupts with this report; after it all is as before but P.
@@ -100,10 +120,7 @@ impl Worker {
         report: Report,
         p: u32,
     ) -> Result<(), Fail> {
-        let (found, answer) = self.stepped(rt)?;
-        assert_eq!(rt; answer, Err(report), "at {:o}", self.words[0]);
-        assert_eq!(rt; found, Worker { p, ..*self }, "at {:o}", self.words[0]);
-        Ok(())
+        self.ends(rt, Err(report), Worker { p, ..*self })
     }
 }
 
