@@ -38,6 +38,16 @@ impl Worker {
         }
     }
 
+    // The same with something in every register.
+    pub fn busy(instruction: u32, word: u32) -> Worker {
+        Worker {
+            a: 0o1234567012,
+            q: 0o7654321076,
+            b: [0, 1, 2, 3, 4, 5, 6, 7],
+            ..Worker::doing(instruction, word)
+        }
+    }
+
     fn registers(&self) -> Registers {
         let mut registers = Registers::starting_at(self.p);
         registers.set_a(word_bits(self.a));

@@ -5,7 +5,7 @@ use processor::{Limits, Reference, RelativeAddress, Report, step};
 use records::Registers;
 use std::test::Fail;
 use store::Half::{Lower, Upper};
-use store::{CellAddress, Fault};
+use store::{CellAddress, Fault, Half};
 use stores::WordStore;
 use words::word_bits;
 
@@ -13,21 +13,14 @@ const BOTH_SPOILED: u32 = UPPER_SPOILED + LOWER_SPOILED;
 
 const FIRST: u32 = 0o1234567012;
 
-// The instruction in all of them; nothing of it is done.
-fn doing(instruction: u32, word: u32) -> Worker {
-    Worker {
-        a: FIRST,
-        q: 0o7654321076,
-        b: [0, 1, 2, 3, 4, 5, 6, 7],
-        ..Worker::doing(instruction, word)
-    }
-}
-
 // Past the length the cells of others are spoiled, and it is protection all the same.
 #[test]
 fn fetches_are_tried(rt: HostRuntime) -> Result<(), Fail> {
     for p in [8, 9, 100, 32_767, 32_768, 131_071] {
-        let before = Worker { p, ..doing(0, 0) };
+        let before = Worker {
+            p,
+            ..Worker::busy(0, 0)
+        };
         before.reports(&rt, protection(Fetch, p), p)?;
     }
     for (marks, half) in [
@@ -35,12 +28,12 @@ fn fetches_are_tried(rt: HostRuntime) -> Result<(), Fail> {
         (LOWER_SPOILED, Lower),
         (BOTH_SPOILED, Upper),
     ] {
-        doing(0o11_0_0_0_00005 + marks, 0).reports(&rt, parity(Fetch, 0, half), 0)?;
+        Worker::busy(0o11_0_0_0_00005 + marks, 0).reports(&rt, parity(Fetch, 0, half), 0)?;
         // an illegal code is not looked at before
-        doing(marks, 0).reports(&rt, parity(Fetch, 0, half), 0)?;
+        Worker::busy(marks, 0).reports(&rt, parity(Fetch, 0, half), 0)?;
         let mut before = Worker {
             p: 7,
-            ..doing(0, 0)
+            ..Worker::busy(0, 0)
         };
         before.words[7] = 0o11_0_0_0_00005 + marks;
         before.reports(&rt, parity(Fetch, 7, half), 7)?;
@@ -80,11 +73,11 @@ fn reads_are_tried(rt: HostRuntime) -> Result<(), Fail> {
             (LOWER_SPOILED, Lower),
             (BOTH_SPOILED, Upper),
         ] {
-            doing(instruction, 0o74 + marks).reports(&rt, parity(Read, 5, half), 0)?;
+            Worker::busy(instruction, 0o74 + marks).reports(&rt, parity(Read, 5, half), 0)?;
         }
         // past the length nothing is looked at
-        doing(instruction + 3, 7).reports(&rt, protection(Read, 8), 1)?;
-        doing(instruction | 0o77777, 7).reports(&rt, protection(Read, 0o77777), 1)?;
+        Worker::busy(instruction + 3, 7).reports(&rt, protection(Read, 8), 1)?;
+        Worker::busy(instruction | 0o77777, 7).reports(&rt, protection(Read, 0o77777), 1)?;
     }
     Ok(())
 }
@@ -100,9 +93,9 @@ fn a_count_is_read_first(rt: HostRuntime) -> Result<(), Fail> {
         0o06_1_3_0_00005,
         0o07_1_1_0_00005,
     ] {
-        doing(instruction, 0o74).reports(&rt, illegal(0), 1)?;
-        doing(instruction, 0o74 + UPPER_SPOILED).reports(&rt, parity(Read, 5, Upper), 0)?;
-        doing(instruction + 3, 0o74).reports(&rt, protection(Read, 8), 1)?;
+        Worker::busy(instruction, 0o74).reports(&rt, illegal(0), 1)?;
+        Worker::busy(instruction, 0o74 + UPPER_SPOILED).reports(&rt, parity(Read, 5, Upper), 0)?;
+        Worker::busy(instruction + 3, 0o74).reports(&rt, protection(Read, 8), 1)?;
     }
     Ok(())
 }
@@ -119,79 +112,81 @@ fn whole_puts_mend(rt: HostRuntime) -> Result<(), Fail> {
         (0o47_0_3_0_00005, 0o1214121012),
     ] {
         for marks in [UPPER_SPOILED, LOWER_SPOILED, BOTH_SPOILED] {
-            let before = doing(instruction, 0o3333344444 + marks);
+            let before = Worker::busy(instruction, 0o3333344444 + marks);
             let mut after = Worker { p: 1, ..before };
             after.words[5] = word;
             before.becomes(&rt, after)?;
         }
-        doing(instruction + 3, 7).reports(&rt, protection(Write, 8), 1)?;
-        doing(instruction | 0o77777, 7).reports(&rt, protection(Write, 0o77777), 1)?;
+        Worker::busy(instruction + 3, 7).reports(&rt, protection(Write, 8), 1)?;
+        Worker::busy(instruction | 0o77777, 7).reports(&rt, protection(Write, 0o77777), 1)?;
     }
     Ok(())
 }
 
 // A put of a half mends it, and fails if the other one is spoiled.
+const HALF_PUTS: [(u32, u32, u32, Half, u32); 7] = [
+    (
+        0o15_0_1_0_00005,
+        LOWER_SPOILED,
+        UPPER_SPOILED,
+        Upper,
+        0o3333367012,
+    ),
+    (
+        0o15_0_2_0_00005,
+        UPPER_SPOILED,
+        LOWER_SPOILED,
+        Lower,
+        0o6701244444,
+    ),
+    (
+        0o15_0_5_0_00005,
+        LOWER_SPOILED,
+        UPPER_SPOILED,
+        Upper,
+        0o3333310765,
+    ),
+    (
+        0o15_0_6_0_00005,
+        UPPER_SPOILED,
+        LOWER_SPOILED,
+        Lower,
+        0o1076544444,
+    ),
+    (
+        0o14_0_1_0_00005,
+        LOWER_SPOILED,
+        UPPER_SPOILED,
+        Upper,
+        0o3333321076,
+    ),
+    (
+        0o16_7_2_0_00005,
+        UPPER_SPOILED,
+        LOWER_SPOILED,
+        Lower,
+        0o0000744444,
+    ),
+    (
+        0o47_0_1_0_00005,
+        LOWER_SPOILED,
+        UPPER_SPOILED,
+        Upper,
+        0o3333321012,
+    ),
+];
+
 #[test]
 fn half_puts_look_beside(rt: HostRuntime) -> Result<(), Fail> {
-    for (instruction, own, other, half, word) in [
-        (
-            0o15_0_1_0_00005,
-            LOWER_SPOILED,
-            UPPER_SPOILED,
-            Upper,
-            0o3333367012,
-        ),
-        (
-            0o15_0_2_0_00005,
-            UPPER_SPOILED,
-            LOWER_SPOILED,
-            Lower,
-            0o6701244444,
-        ),
-        (
-            0o15_0_5_0_00005,
-            LOWER_SPOILED,
-            UPPER_SPOILED,
-            Upper,
-            0o3333310765,
-        ),
-        (
-            0o15_0_6_0_00005,
-            UPPER_SPOILED,
-            LOWER_SPOILED,
-            Lower,
-            0o1076544444,
-        ),
-        (
-            0o14_0_1_0_00005,
-            LOWER_SPOILED,
-            UPPER_SPOILED,
-            Upper,
-            0o3333321076,
-        ),
-        (
-            0o16_7_2_0_00005,
-            UPPER_SPOILED,
-            LOWER_SPOILED,
-            Lower,
-            0o0000744444,
-        ),
-        (
-            0o47_0_1_0_00005,
-            LOWER_SPOILED,
-            UPPER_SPOILED,
-            Upper,
-            0o3333321012,
-        ),
-    ] {
-        let before = doing(instruction, 0o3333344444 + own);
+    for (instruction, own, other, half, word) in HALF_PUTS {
+        let before = Worker::busy(instruction, 0o3333344444 + own);
         let mut after = Worker { p: 1, ..before };
         after.words[5] = word;
         before.becomes(&rt, after)?;
         let report = parity(Write, 5, half);
-        doing(instruction, 0o3333344444 + other).reports(&rt, report, 0)?;
-        doing(instruction, 0o3333344444 + BOTH_SPOILED).reports(&rt, report, 0)?;
-        doing(instruction + 3, 7).reports(&rt, protection(Write, 8), 1)?;
+        Worker::busy(instruction, 0o3333344444 + other).reports(&rt, report, 0)?;
+        Worker::busy(instruction, 0o3333344444 + BOTH_SPOILED).reports(&rt, report, 0)?;
+        Worker::busy(instruction + 3, 7).reports(&rt, protection(Write, 8), 1)?;
     }
     Ok(())
 }

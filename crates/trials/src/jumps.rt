@@ -6,35 +6,37 @@ use std::test::Fail;
 const J: u32 = 0o00_1_0_0_00000;
 
 // 0o60 and 0o64 jump by j; each row has which of j = 0 to 7 do. The return jump goes to 6 and leaves 1 at 5.
+const JUMPS: [(u32, u32, [bool; 8]); 5] = [
+    (
+        0o0000000000,
+        0o0000000000,
+        [false, true, true, false, true, false, true, false],
+    ),
+    (
+        0o7777777777,
+        0o7777777777,
+        [false, true, false, true, false, true, false, true],
+    ),
+    (
+        0o0000000001,
+        0o4000000000,
+        [false, true, false, true, false, true, true, false],
+    ),
+    (
+        0o4000000000,
+        0o3777777777,
+        [false, true, true, false, false, true, false, true],
+    ),
+    (
+        0o0000000000,
+        0o7777777777,
+        [false, true, false, true, true, false, true, false],
+    ),
+];
+
 #[test]
 fn j_decides(rt: HostRuntime) -> Result<(), Fail> {
-    for (a, q, jumps) in [
-        (
-            0o0000000000,
-            0o0000000000,
-            [false, true, true, false, true, false, true, false],
-        ),
-        (
-            0o7777777777,
-            0o7777777777,
-            [false, true, false, true, false, true, false, true],
-        ),
-        (
-            0o0000000001,
-            0o4000000000,
-            [false, true, false, true, false, true, true, false],
-        ),
-        (
-            0o4000000000,
-            0o3777777777,
-            [false, true, true, false, false, true, false, true],
-        ),
-        (
-            0o0000000000,
-            0o7777777777,
-            [false, true, false, true, true, false, true, false],
-        ),
-    ] {
+    for (a, q, jumps) in JUMPS {
         for j in 0..8 {
             let more = j as u32 * J;
             let (p, word) = if jumps[j] {

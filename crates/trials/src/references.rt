@@ -6,15 +6,6 @@ use store::Half::{Lower, Upper};
 
 const FIRST: u32 = 0o1234567012;
 
-fn doing(instruction: u32, word: u32) -> Worker {
-    Worker {
-        a: FIRST,
-        q: 0o7654321076,
-        b: [0, 1, 2, 3, 4, 5, 6, 7],
-        ..Worker::doing(instruction, word)
-    }
-}
-
 // Neither the spoiled word at 5 nor the missing one at 8 matters. The product of A and Q is 1214121012, and A shifted by 5 is 0024713560.
 #[test]
 fn nothing_is_referred_to(rt: HostRuntime) -> Result<(), Fail> {
@@ -31,7 +22,7 @@ fn nothing_is_referred_to(rt: HostRuntime) -> Result<(), Fail> {
         (0o47_0_0_0_00010, FIRST, 0o1214121012),
         (0o77_55_0_00005, 0o0024713560, 0o7654321076),
     ] {
-        let before = doing(instruction, FIRST + UPPER_SPOILED + LOWER_SPOILED);
+        let before = Worker::busy(instruction, FIRST + UPPER_SPOILED + LOWER_SPOILED);
         before.becomes(
             &rt,
             Worker {
@@ -49,12 +40,12 @@ fn nothing_is_referred_to(rt: HostRuntime) -> Result<(), Fail> {
 #[test]
 fn two_words_are_read_in_order(rt: HostRuntime) -> Result<(), Fail> {
     for instruction in [0o77_21_0_00000, 0o77_23_0_00000, 0o77_27_0_00000] {
-        doing(instruction | 0o00007, 0).reports(&rt, protection(Read, 8), 1)?;
-        doing(instruction | 0o00010, 0).reports(&rt, protection(Read, 8), 1)?;
-        doing(instruction | 0o00011, 0).reports(&rt, protection(Read, 9), 1)?;
-        let spoiled = doing(instruction | 0o00004, LOWER_SPOILED);
+        Worker::busy(instruction | 0o00007, 0).reports(&rt, protection(Read, 8), 1)?;
+        Worker::busy(instruction | 0o00010, 0).reports(&rt, protection(Read, 8), 1)?;
+        Worker::busy(instruction | 0o00011, 0).reports(&rt, protection(Read, 9), 1)?;
+        let spoiled = Worker::busy(instruction | 0o00004, LOWER_SPOILED);
         spoiled.reports(&rt, parity(Read, 5, Lower), 0)?;
-        let mut spoiled = doing(instruction | 0o00007, 0);
+        let mut spoiled = Worker::busy(instruction | 0o00007, 0);
         spoiled.words[7] = UPPER_SPOILED;
         spoiled.reports(&rt, parity(Read, 7, Upper), 0)?;
         spoiled.words[6] = LOWER_SPOILED;
@@ -67,14 +58,14 @@ fn two_words_are_read_in_order(rt: HostRuntime) -> Result<(), Fail> {
 // Both are tried before either is put, and neither meets parity.
 #[test]
 fn two_words_are_put_or_none(rt: HostRuntime) -> Result<(), Fail> {
-    let mut before = doing(0o77_25_0_00007, 0);
+    let mut before = Worker::busy(0o77_25_0_00007, 0);
     before.words[7] = 0o3333344444;
     before.reports(&rt, protection(Write, 8), 1)?;
     before.words[7] = UPPER_SPOILED;
     before.reports(&rt, protection(Write, 8), 1)?;
-    doing(0o77_25_0_00010, 0).reports(&rt, protection(Write, 8), 1)?;
-    doing(0o77_25_0_00011, 0).reports(&rt, protection(Write, 9), 1)?;
-    let mut before = doing(0o77_25_0_00005, UPPER_SPOILED);
+    Worker::busy(0o77_25_0_00010, 0).reports(&rt, protection(Write, 8), 1)?;
+    Worker::busy(0o77_25_0_00011, 0).reports(&rt, protection(Write, 9), 1)?;
+    let mut before = Worker::busy(0o77_25_0_00005, UPPER_SPOILED);
     before.words[6] = UPPER_SPOILED + LOWER_SPOILED;
     let mut after = Worker { p: 1, ..before };
     after.words[5] = FIRST;
@@ -84,12 +75,12 @@ fn two_words_are_put_or_none(rt: HostRuntime) -> Result<(), Fail> {
 
 #[test]
 fn five_words_are_read_in_order(rt: HostRuntime) -> Result<(), Fail> {
-    doing(0o77_31_0_00004, 0).reports(&rt, protection(Read, 8), 1)?;
-    doing(0o77_31_0_00007, 0).reports(&rt, protection(Read, 8), 1)?;
-    doing(0o77_31_0_00010, 0).reports(&rt, protection(Read, 8), 1)?;
+    Worker::busy(0o77_31_0_00004, 0).reports(&rt, protection(Read, 8), 1)?;
+    Worker::busy(0o77_31_0_00007, 0).reports(&rt, protection(Read, 8), 1)?;
+    Worker::busy(0o77_31_0_00010, 0).reports(&rt, protection(Read, 8), 1)?;
     for (at, word) in [(3, 3), (4, 4), (5, 5), (6, 6), (7, 7)] {
         for y in [0o00003, 0o00002, 0o00004] {
-            let mut before = doing(0o77_31_0_00000 | y, 0);
+            let mut before = Worker::busy(0o77_31_0_00000 | y, 0);
             if let Some(cell) = before.words.get_mut(at) {
                 *cell = FIRST + LOWER_SPOILED;
             }
@@ -116,13 +107,13 @@ fn five_words_are_read_in_order(rt: HostRuntime) -> Result<(), Fail> {
 // A return jump writes only if it jumps, and then after its read.
 #[test]
 fn a_return_jump_reads_and_writes(rt: HostRuntime) -> Result<(), Fail> {
-    doing(0o64_1_0_0_00005, FIRST + UPPER_SPOILED).reports(&rt, parity(Write, 5, Upper), 0)?;
-    doing(0o64_1_0_0_00010, 0).reports(&rt, protection(Write, 8), 1)?;
-    doing(0o64_1_4_0_77777, 0).reports(&rt, protection(Write, 0o77777), 1)?;
-    doing(0o64_1_1_0_00005, 0o00010).reports(&rt, protection(Write, 8), 1)?;
-    doing(0o64_1_3_0_00010, 0).reports(&rt, protection(Read, 8), 1)?;
-    doing(0o64_1_1_0_00005, FIRST + LOWER_SPOILED).reports(&rt, parity(Read, 5, Lower), 0)?;
-    let mended = doing(0o64_1_0_0_00005, FIRST + LOWER_SPOILED);
+    Worker::busy(0o64_1_0_0_00005, FIRST + UPPER_SPOILED).reports(&rt, parity(Write, 5, Upper), 0)?;
+    Worker::busy(0o64_1_0_0_00010, 0).reports(&rt, protection(Write, 8), 1)?;
+    Worker::busy(0o64_1_4_0_77777, 0).reports(&rt, protection(Write, 0o77777), 1)?;
+    Worker::busy(0o64_1_1_0_00005, 0o00010).reports(&rt, protection(Write, 8), 1)?;
+    Worker::busy(0o64_1_3_0_00010, 0).reports(&rt, protection(Read, 8), 1)?;
+    Worker::busy(0o64_1_1_0_00005, FIRST + LOWER_SPOILED).reports(&rt, parity(Read, 5, Lower), 0)?;
+    let mended = Worker::busy(0o64_1_0_0_00005, FIRST + LOWER_SPOILED);
     let mut after = Worker { p: 6, ..mended };
     after.words[5] = 0o1234500001;
     mended.becomes(&rt, after)?;
@@ -131,7 +122,7 @@ fn a_return_jump_reads_and_writes(rt: HostRuntime) -> Result<(), Fail> {
         (0o64_0_0_0_00010, 0),
         (0o64_0_1_0_00005, 0o77777),
     ] {
-        let before = doing(instruction, word);
+        let before = Worker::busy(instruction, word);
         before.becomes(&rt, Worker { p: 1, ..before })?;
     }
     Ok(())
@@ -141,9 +132,17 @@ fn a_return_jump_reads_and_writes(rt: HostRuntime) -> Result<(), Fail> {
 #[test]
 fn a_test_reads_the_whole_cell(rt: HostRuntime) -> Result<(), Fail> {
     for word in [0, 0o40000] {
-        doing(0o77_52_0_00005, word + UPPER_SPOILED).reports(&rt, parity(Read, 5, Upper), 0)?;
-        doing(0o77_52_0_00005, word + LOWER_SPOILED).reports(&rt, parity(Read, 5, Lower), 0)?;
-        doing(0o77_52_0_00010, word).reports(&rt, protection(Read, 8), 1)?;
+        Worker::busy(0o77_52_0_00005, word + UPPER_SPOILED).reports(
+            &rt,
+            parity(Read, 5, Upper),
+            0,
+        )?;
+        Worker::busy(0o77_52_0_00005, word + LOWER_SPOILED).reports(
+            &rt,
+            parity(Read, 5, Lower),
+            0,
+        )?;
+        Worker::busy(0o77_52_0_00010, word).reports(&rt, protection(Read, 8), 1)?;
     }
     Ok(())
 }

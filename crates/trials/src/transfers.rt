@@ -4,6 +4,11 @@ use std::test::Fail;
 
 const FIRST: u32 = 0o1234567012;
 
+// A and Q where they are not what is stored.
+const A: u32 = 0o3333344444;
+
+const Q: u32 = 0o2222255555;
+
 // The word at 5 before a store.
 const OLD: u32 = 0o7070604050;
 
@@ -58,7 +63,6 @@ fn index_registers_are_entered(rt: HostRuntime) -> Result<(), Fail> {
 // The complement of Q is 6543210765. Each row has the word, A and Q afterwards.
 #[test]
 fn q_is_stored(rt: HostRuntime) -> Result<(), Fail> {
-    const A: u32 = 0o3333344444;
     for (instruction, after) in [
         (0o14_0_0_0_77777, [OLD, A, 0o6543210765]),
         (0o14_0_1_0_00005, [0o7070667012, A, FIRST]),
@@ -77,7 +81,6 @@ fn q_is_stored(rt: HostRuntime) -> Result<(), Fail> {
 // The complement of A is 6543210765.
 #[test]
 fn a_is_stored(rt: HostRuntime) -> Result<(), Fail> {
-    const Q: u32 = 0o3333344444;
     for (instruction, after) in [
         (0o15_0_0_0_77777, [OLD, FIRST, FIRST]),
         (0o15_0_1_0_00005, [0o7070667012, FIRST, Q]),
@@ -94,35 +97,35 @@ fn a_is_stored(rt: HostRuntime) -> Result<(), Fail> {
 }
 
 // B1 is 00001, B3 is 12345 with the complement 65432, and B4 is the other way around. No j skips.
+const STORED: [(u32, [u32; 3]); 22] = [
+    (0o16_3_0_0_77777, [OLD, A, 0o0000012345]),
+    (0o16_3_1_0_00005, [0o7070612345, A, Q]),
+    (0o16_3_2_0_00005, [0o1234504050, A, Q]),
+    (0o16_3_3_0_00005, [0o0000012345, A, Q]),
+    (0o16_3_4_0_77777, [OLD, 0o0000012345, Q]),
+    (0o16_3_5_0_00005, [0o7070665432, A, Q]),
+    (0o16_3_6_0_00005, [0o6543204050, A, Q]),
+    (0o16_3_7_0_00005, [0o7777765432, A, Q]),
+    (0o16_4_0_0_77777, [OLD, A, 0o0000065432]),
+    (0o16_4_3_0_00005, [0o0000065432, A, Q]),
+    (0o16_4_4_0_77777, [OLD, 0o0000065432, Q]),
+    (0o16_4_7_0_00005, [0o0000012345, A, Q]),
+    (0o16_1_7_0_00005, [0o7777777776, A, Q]),
+    (0o16_0_0_0_77777, [OLD, A, 0]),
+    (0o16_0_1_0_00005, [0o7070600000, A, Q]),
+    (0o16_0_2_0_00005, [0o0000004050, A, Q]),
+    (0o16_0_3_0_00005, [0o0000000000, A, Q]),
+    (0o16_0_4_0_77777, [OLD, 0, Q]),
+    (0o16_0_5_0_00005, [0o7070677777, A, Q]),
+    (0o16_0_6_0_00005, [0o7777704050, A, Q]),
+    (0o16_0_7_0_00005, [0o7777777777, A, Q]),
+    // put at 4 + B1, of which B1 is also what is put
+    (0o16_1_1_1_00004, [0o7070600001, A, Q]),
+];
+
 #[test]
 fn index_registers_are_stored(rt: HostRuntime) -> Result<(), Fail> {
-    const A: u32 = 0o3333344444;
-    const Q: u32 = 0o2222255555;
-    for (instruction, [word, a, q]) in [
-        (0o16_3_0_0_77777, [OLD, A, 0o0000012345]),
-        (0o16_3_1_0_00005, [0o7070612345, A, Q]),
-        (0o16_3_2_0_00005, [0o1234504050, A, Q]),
-        (0o16_3_3_0_00005, [0o0000012345, A, Q]),
-        (0o16_3_4_0_77777, [OLD, 0o0000012345, Q]),
-        (0o16_3_5_0_00005, [0o7070665432, A, Q]),
-        (0o16_3_6_0_00005, [0o6543204050, A, Q]),
-        (0o16_3_7_0_00005, [0o7777765432, A, Q]),
-        (0o16_4_0_0_77777, [OLD, A, 0o0000065432]),
-        (0o16_4_3_0_00005, [0o0000065432, A, Q]),
-        (0o16_4_4_0_77777, [OLD, 0o0000065432, Q]),
-        (0o16_4_7_0_00005, [0o0000012345, A, Q]),
-        (0o16_1_7_0_00005, [0o7777777776, A, Q]),
-        (0o16_0_0_0_77777, [OLD, A, 0]),
-        (0o16_0_1_0_00005, [0o7070600000, A, Q]),
-        (0o16_0_2_0_00005, [0o0000004050, A, Q]),
-        (0o16_0_3_0_00005, [0o0000000000, A, Q]),
-        (0o16_0_4_0_77777, [OLD, 0, Q]),
-        (0o16_0_5_0_00005, [0o7070677777, A, Q]),
-        (0o16_0_6_0_00005, [0o7777704050, A, Q]),
-        (0o16_0_7_0_00005, [0o7777777777, A, Q]),
-        // put at 4 + B1, of which B1 is also what is put
-        (0o16_1_1_1_00004, [0o7070600001, A, Q]),
-    ] {
+    for (instruction, [word, a, q]) in STORED {
         let before = Worker {
             a: A,
             q: Q,
