@@ -1,6 +1,7 @@
-# `make demo` builds the console and plays `examples/store.script`; `make test` is the gate; `make vectors` writes the vectors of arithmetic anew.
+# `make demo` builds the console and plays `examples/store.script`; `make test` is the gate; `make vectors` writes the vectors of arithmetic anew, and
+# `make player-lines` the cases that the player plays.
 # `make cases` has the checker compute the cases in `tools/cases` from the definitions; it is no part of the gate.
-.PHONY: demo test vectors cases
+.PHONY: demo test vectors player-lines cases
 
 demo:
 	@mkdir -p target
@@ -13,6 +14,10 @@ test:
 vectors:
 	@python3 tools/vectors.py questions > crates/vectors/stdin
 	@python3 tools/vectors.py answers > crates/vectors/stdout
+
+player-lines:
+	@python3 tools/player_lines.py questions > crates/player/stdin
+	@python3 tools/player_lines.py answers > crates/player/stdout
 
 cases:
 	@python3 tools/compute_cases.py

@@ -1,0 +1,71 @@
+// What came of a step or a run, as a case writes it.
+use processor::{Ending, Ran, Reference, ReferenceKind, Report};
+use std::fmt;
+use store::Fault;
+
+#[derive(Clone, Copy, Debug, PartialEq, Eq)]
+pub(crate) enum Outcome {
+    Stepped(Result<(), Report>),
+    Ran(Ran),
+}
+
+impl fmt::Display for Outcome {
+    fn fmt<W: fmt::Write>(&self, f: &mut fmt::Formatter<W>) -> fmt::Result {
+        match *self {
+            Outcome::Stepped(Ok(())) => write!(f, "none"),
+            Outcome::Stepped(Err(report)) => write!(f, "{}", WrittenReport(report)),
+            Outcome::Ran(Ran { steps, ending }) => write!(f, "{steps} {}", WrittenEnding(ending)),
+        }
+    }
+}
+
+#[derive(Clone, Copy)]
+struct WrittenEnding(Ending);
+
+impl fmt::Display for WrittenEnding {
+    fn fmt<W: fmt::Write>(&self, f: &mut fmt::Formatter<W>) -> fmt::Result {
+        match self.0 {
+            Ending::Spent => write!(f, "spent"),
+            Ending::Interrupted(report) => write!(f, "{}", WrittenReport(report)),
+        }
+    }
+}
+
+#[derive(Clone, Copy)]
+struct WrittenReport(Report);
+
+impl fmt::Display for WrittenReport {
+    fn fmt<W: fmt::Write>(&self, f: &mut fmt::Formatter<W>) -> fmt::Result {
+        match self.0 {
+            Report::IllegalInstruction(address) => write!(f, "illegal {}", address.0),
+            Report::Protection(reference) => write!(
+                f,
+                "protection {}",
+                WrittenReference(reference)
+            ),
+            Report::Parity(reference, Fault::Spoiled(half)) => {
+                write!(f, "parity {} {half}", WrittenReference(reference))
+            }
+            Report::Parity(reference, Fault::NoCell) => {
+                write!(f, "parity {} no cell", WrittenReference(reference))
+            }
+            Report::ExecutiveReturn(address) => write!(f, "executive {}", address.0),
+            Report::TestAndSet(address) => write!(f, "testset {}", address.0),
+        }
+    }
+}
+
+#[derive(Clone, Copy)]
+struct WrittenReference(Reference);
+
+impl fmt::Display for WrittenReference {
+    fn fmt<W: fmt::Write>(&self, f: &mut fmt::Formatter<W>) -> fmt::Result {
+        let Reference { kind, address } = self.0;
+        let kind = match kind {
+            ReferenceKind::Fetch => "fetch",
+            ReferenceKind::Read => "read",
+            ReferenceKind::Write => "write",
+        };
+        write!(f, "{kind} {}", address.0)
+    }
+}
