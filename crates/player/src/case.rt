@@ -1,13 +1,12 @@
 // Cases without their results.
 use super::cell::Cell;
-use super::numbers::within;
 use super::problem::Problem;
 use super::registers::read_registers;
 use records::Registers;
 use std::alloc::Global;
 
 // What is done: one step, or a run for a budget of steps.
-#[derive(Clone, Copy, Debug, PartialEq, Eq)]
+#[derive(Clone, Copy)]
 pub(crate) enum Task {
     Step,
     Run(u32),
@@ -32,7 +31,7 @@ fn read_words(heap: Global, text: &str) -> Result<Vec<Cell>, Problem> {
 }
 
 // The three fields that tell of a machine.
-#[derive(Clone, Copy)]
+#[derive(Drop)]
 struct MachineFields<'a> {
     length: &'a str,
     registers: &'a str,
@@ -42,7 +41,7 @@ struct MachineFields<'a> {
 impl MachineFields<'_> {
     // The case, if the worker has as many words as its length says.
     fn read(&self, heap: Global, task: Task) -> Result<Case, Problem> {
-        let length = within(self.length, 31).ok_or(Problem::NoCase)?;
+        let length = self.length.parse::<u32>().map_err(|_| Problem::NoCase)?;
         let registers = read_registers(self.registers).ok_or(Problem::NoCase)?;
         let words = read_words(heap, self.words)?;
         if words.len() != length as usize {

@@ -1,17 +1,17 @@
 // Cells as a case writes them: `upper,good,lower,good`, where good is 1 for a good half and 0 for a spoiled one.
-use super::numbers::within;
+use super::numbers::below;
 use std::fmt;
 use std::str::Split;
 use words::{HalfWord, half_bits};
 
 // A half of a cell. A spoiled one has a value too.
-#[derive(Clone, Copy, Debug, PartialEq, Eq)]
+#[derive(Clone, Copy, PartialEq, Eq)]
 pub(crate) struct HalfCell {
     pub(crate) value: HalfWord,
     pub(crate) is_good: bool,
 }
 
-#[derive(Clone, Copy, Debug, PartialEq, Eq)]
+#[derive(Clone, Copy, PartialEq, Eq)]
 pub(crate) struct Cell {
     pub(crate) upper: HalfCell,
     pub(crate) lower: HalfCell,
@@ -20,8 +20,8 @@ pub(crate) struct Cell {
 impl HalfCell {
     // The half that the next two parts of a text are.
     fn read(parts: &mut Split<'_, char>) -> Option<HalfCell> {
-        let value = half_bits(within(parts.next()?, 15)?);
-        let is_good = within(parts.next()?, 1)? == 1;
+        let value = half_bits(below(1 << 15, parts.next()?)?);
+        let is_good = below(2, parts.next()?)? == 1;
         Some(HalfCell { value, is_good })
     }
 }

@@ -3,7 +3,7 @@ use processor::{Ending, Ran, Reference, ReferenceKind, Report};
 use std::fmt;
 use store::Fault;
 
-#[derive(Clone, Copy, Debug, PartialEq, Eq)]
+#[derive(Clone, Copy, PartialEq, Eq)]
 pub(crate) enum Outcome {
     Stepped(Result<(), Report>),
     Ran(Ran),
@@ -19,7 +19,7 @@ impl fmt::Display for Outcome {
     }
 }
 
-#[derive(Clone, Copy)]
+#[derive(Drop)]
 struct WrittenEnding(Ending);
 
 impl fmt::Display for WrittenEnding {
@@ -31,7 +31,7 @@ impl fmt::Display for WrittenEnding {
     }
 }
 
-#[derive(Clone, Copy)]
+#[derive(Drop)]
 struct WrittenReport(Report);
 
 impl fmt::Display for WrittenReport {
@@ -55,17 +55,25 @@ impl fmt::Display for WrittenReport {
     }
 }
 
-#[derive(Clone, Copy)]
+#[derive(Drop)]
 struct WrittenReference(Reference);
 
 impl fmt::Display for WrittenReference {
     fn fmt<W: fmt::Write>(&self, f: &mut fmt::Formatter<W>) -> fmt::Result {
         let Reference { kind, address } = self.0;
-        let kind = match kind {
-            ReferenceKind::Fetch => "fetch",
-            ReferenceKind::Read => "read",
-            ReferenceKind::Write => "write",
-        };
-        write!(f, "{kind} {}", address.0)
+        write!(f, "{} {}", WrittenKind(kind), address.0)
+    }
+}
+
+#[derive(Drop)]
+struct WrittenKind(ReferenceKind);
+
+impl fmt::Display for WrittenKind {
+    fn fmt<W: fmt::Write>(&self, f: &mut fmt::Formatter<W>) -> fmt::Result {
+        match self.0 {
+            ReferenceKind::Fetch => write!(f, "fetch"),
+            ReferenceKind::Read => write!(f, "read"),
+            ReferenceKind::Write => write!(f, "write"),
+        }
     }
 }

@@ -37,9 +37,12 @@ pub(crate) struct Played {
 
 impl fmt::Display for Played {
     fn fmt<W: fmt::Write>(&self, f: &mut fmt::Formatter<W>) -> fmt::Result {
-        write!(f, "{} | {} |", self.outcome, Written(self.registers))?;
-        for word in self.words.iter() {
-            write!(f, " {word}")?;
+        write!(f, "{} | {} | ", self.outcome, Written(self.registers))?;
+        if let Some((first, others)) = self.words.split_first() {
+            write!(f, "{first}")?;
+            for word in others {
+                write!(f, " {word}")?;
+            }
         }
         Ok(())
     }

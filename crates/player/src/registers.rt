@@ -1,5 +1,5 @@
 // Registers as a case writes them: A, Q, B1 to B7 and P.
-use super::numbers::within;
+use super::numbers::below;
 use records::Registers;
 use std::fmt;
 use words::word_bits;
@@ -8,22 +8,22 @@ use words::word_bits;
 pub(crate) fn read_registers(text: &str) -> Option<Registers> {
     let mut parts = text.split_whitespace();
     let mut registers = Registers::starting_at(0);
-    registers.set_a(word_bits(within(parts.next()?, 30)?));
-    registers.set_q(word_bits(within(parts.next()?, 30)?));
+    registers.set_a(word_bits(below(1 << 30, parts.next()?)?));
+    registers.set_q(word_bits(below(1 << 30, parts.next()?)?));
     for j in 1..8 {
-        registers.set_b(j, within(parts.next()?, 15)?);
+        registers.set_b(j, below(1 << 15, parts.next()?)?);
     }
-    registers.set_p(within(parts.next()?, 17)?);
+    registers.set_p(below(1 << 17, parts.next()?)?);
     parts.next().is_none().then_some(registers)
 }
 
 // Registers to be written.
-#[derive(Clone, Copy)]
+#[derive(Drop)]
 pub(crate) struct Written(pub(crate) Registers);
 
 impl fmt::Display for Written {
     fn fmt<W: fmt::Write>(&self, f: &mut fmt::Formatter<W>) -> fmt::Result {
-        let Written(registers) = *self;
+        let registers = self.0;
         write!(f, "{} {}", registers.a().get(), registers.q().get())?;
         for j in 1..8 {
             write!(f, " {}", registers.b(j))?;

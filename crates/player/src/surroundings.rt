@@ -1,7 +1,7 @@
 // The cells before and after a worker's words.
 use super::cell::{Cell, HalfCell};
 use std::alloc::{AllocError, Global};
-use words::{HalfWord, half_bits};
+use words::half_bits;
 
 // How many there are before, which is the worker's lower limit, and how many after, and the number from which all of them are made.
 #[derive(Clone, Copy)]
@@ -13,10 +13,9 @@ pub(crate) struct Surroundings {
 
 impl Surroundings {
     fn half(self, number: u32) -> HalfCell {
-        let value: HalfWord = half_bits(number.wrapping_mul(self.seed));
         HalfCell {
-            value,
-            is_good: value.get() % 3 != 0,
+            value: half_bits(number.wrapping_mul(self.seed)),
+            is_good: number % 3 != 0,
         }
     }
 
