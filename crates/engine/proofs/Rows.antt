@@ -1,6 +1,6 @@
 -- A worker's words in the row: put there they are found there, and the words of other cells stay.
 use Rattle.std.proofs.Common.{ℕ, ◌≡◌, ◌+◌, ◌-◌, ◌≤◌, List, ◌++◌, length, take, drop, ap, sym, ◌∙◌, arith, length-append, append_assoc}
-use Rattle.std.proofs.lemmas.List.{length-take, length-drop, length-take-le, take_at, drop_at, drop-take, take-append-drop, take-take, drop-drop}
+use Rattle.std.proofs.lemmas.List.{length-take, length-drop, length-take-le, take_at, drop_at, drop-take, take-take}
 use Rattle.std.proofs.lemmas.Slice.{drop-append-drop}
 use Rattle.store.specs.Cells.{Cell}
 use Rattle.processor.specs.Limits.{words_in, row_with}
@@ -36,10 +36,3 @@ module _ (row : List Cell) (l n : ℕ) (inside : l + n ≤ length row) where
         ap (take l) (append_assoc (take l row) words (drop (l + n) row))
         ∙ take_at (take l row) (words ++ drop (l + n) row) l (length-take-le l row (omega (arith, inside))) in
         sym (in_front (row_with row l n words) l k m below) ∙ ap (λ xs. take m (drop k xs)) kept ∙ in_front row l k m below
-
-pub same_words : (row : List Cell) (l n : ℕ) → l + n ≤ length row → row_with row l n (words_in row l n) ≡ row
-same_words row l n inside =
-    append_assoc (take l row) (take n (drop l row)) (drop (l + n) row)
-    ∙ ap (λ xs. take l row ++ (take n (drop l row) ++ xs)) (sym (drop-drop n l row))
-    ∙ ap (λ xs. take l row ++ xs) (take-append-drop n (drop l row))
-    ∙ take-append-drop l row
