@@ -10,9 +10,10 @@ const UPPER_SPOILED: u32 = 1 << 31;
 
 const LOWER_SPOILED: u32 = 1 << 30;
 
-// Set in a parity store's number where that makes the count of ones what it is to be.
+// Set in a parity store's number where its lower bits alone would give the other mark.
 const TOP_BIT: u16 = 1 << 15;
 
+// A store made of cells, and taken apart into them by its memory's numbers.
 pub(crate) trait Laid: Store + Drop {
     // The store whose row has these cells, or all but the last of them.
     fn over(heap: Global, cells: &[Cell]) -> Result<Self, AllocError>

@@ -1,4 +1,4 @@
--- A run keeps the registers as wide as they are.
+-- A step and a run leave registers that fit.
 use Rattle.std.proofs.Common.{ℕ, zero, suc, subst, ap, ◌≡◌, ◌%◌, ◌^◌, ◌<◌, ◌≤◌, nat_lt, arith, Result, Ok, Err}
 use Rattle.std.proofs.lemmas.Bool.{cond_both, ltb-true}
 use Rattle.records.specs.Registers.{Fits, with_p}
@@ -37,7 +37,7 @@ p_after_interrupt (Parity reference fault) p low = omega arith
 p_after_interrupt (ExecutiveReturn r) p low = omega arith
 p_after_interrupt (TestAndSet r) p low = omega arith
 
--- a step's machine is as long, and its registers fit
+-- a machine of at most 32,768 words, whose registers fit
 abbrev MachineFits : Machine → Type 0
 MachineFits m = (m.length ≤ 32768) × Fits m.registers
 

@@ -10,7 +10,6 @@ use Rattle.processor.specs.Limits.{Limits, Becomes, between, machine_in}
 use Rattle.processor.specs.Machine.{Machine}
 use Rattle.processor.specs.Run.{Outcome, one_more, run, run_on}
 use Rattle.processor.specs.Step.{Stepped, completed, interrupted, answer_of, machine_after, step, stepped, tried}
-use Rattle.processor.proofs.Between.{nothing_becomes}
 
 -- rows that become others, one after another
 pub becomes_then : (row : List Cell) (l : Limits) (mid words after : List Cell) → Becomes row l (between mid l) mid → Becomes mid l words after → Becomes row l words after
@@ -20,7 +19,7 @@ becomes_then row l mid words after first second = record {
   above = second.above ∙ first.above;
 }
 
--- a step has no other length
+-- a step keeps the length
 stepped_length : (m : Machine) (r : Result Effect Report) → (machine_after (stepped m r)).length ≡ m.length
 stepped_length m (Ok effect) = refl
 stepped_length m (Err report) = refl
@@ -55,7 +54,7 @@ outcome n e m = record { told = record { steps = n; ending = e }; machine = m }
 abbrev after_steps : ℕ → Outcome → Outcome
 after_steps n o = outcome (n + o.told.steps) o.told.ending o.machine
 
--- counts that are equal
+-- outcomes whose counts are equal
 counted : (e : Ending) (m : Machine) (n k : ℕ) → n ≡ k → outcome n e m ≡ outcome k e m
 counted e m n k same = ap (λ n. outcome n e m) same
 
@@ -65,9 +64,6 @@ pub record Going (row : List Cell) (l : Limits) (r : Registers) (budget done : �
   pub only_words : Becomes row l (between row_now l) row_now
 
 module _ (row : List Cell) (l : Limits) (r : Registers) (budget : ℕ) where
-  pub starts : Going row l r budget 0 row r
-  starts = let all : budget - 0 ≡ budget = omega arith in record { to_come = rw all (counted _ _ _ _ (omega arith)); only_words = nothing_becomes row l }
-
   module _ (done : ℕ) (row_now : List Cell) (now : Registers) (going : Going row l r budget done row_now now) where
     abbrev m : Machine
     m = machine_in row_now l now

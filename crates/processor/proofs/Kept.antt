@@ -1,4 +1,4 @@
--- A run keeps the number of words and the length.
+-- A step and a run keep the number of words, and a step that is interrupted keeps all registers but P.
 use Rattle.std.proofs.Common.{ℕ, zero, suc, ◌≡◌, List, [], ◌∷◌, length, refl, ◌∙◌, Result, Ok, Err}
 use Rattle.std.proofs.lemmas.List.{length-set}
 use Rattle.store.specs.Cells.{Cell}

@@ -24,7 +24,7 @@ module _ (row : List Cell) (l : Limits) (words after : List Cell) (becomes : Bec
 
   -- with as many words
   module _ (as_many : length words ≡ length (between row l)) where
-    pub same_number : length after ≡ length row
+    same_number : length after ≡ length row
     same_number =
         ap length (becomes_row row l words after becomes)
         ∙ parts_number row l words

@@ -94,7 +94,7 @@ step_of_cell : (m : Machine) → Whole m → StepOfCell (step m)
 unfolding step
 step_of_cell m all = stepped_of_cell m (tried m) all (tried_of_cell m all)
 
--- so what a step answers
+-- so a report that a step answers does not tell it
 answer_of_cell : (s : Stepped) → StepOfCell s → IfErr (answer_of s) OfCell
 answer_of_cell (completed after) all = tt
 answer_of_cell (interrupted report after) there = there

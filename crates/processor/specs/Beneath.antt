@@ -1,4 +1,4 @@
--- What a step and a run do to the store itself, whatever lies under its row: their puts, one after another, and nothing else.
+-- What a step and a run do to the store itself, as far as it tells that of its puts: their puts, one after another, and nothing else.
 use Rattle.std.specs.Prelude.{◌≡◌, ℕ, zero, suc, ◌+◌, List, [], ◌∷◌, ◌++◌, Result, Ok, Err}
 use Rattle.store.specs.declared.half.Half.{Half}
 use Rattle.processor.specs.declared.effect.Put.{Put}

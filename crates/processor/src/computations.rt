@@ -35,7 +35,7 @@ impl Computation {
         }
     }
 
-    // Puts it in A, and answers it.
+    // Puts the new A in, and answers it.
     fn compute_in(self, registers: &mut Registers, y: Word) -> Word
         ensures value { result ≡ registers.new.a }
         ensures after { registers.new ≡ with_computed self registers.old y }

@@ -1,7 +1,7 @@
 // What comes of a run.
 use super::Report;
 
-// All steps of the budget were done, or the last one interrupted.
+// No step interrupted, or the last one done did.
 #[derive(Clone, Copy, Debug, PartialEq, Eq)]
 pub enum Ending {
     Spent,

@@ -5,7 +5,7 @@ ghost use Rattle.processor.specs.Effects.{next_p};
 ghost use Rattle.processor.specs.Beneath.{PutsDo, step_puts};
 ghost use Rattle.processor.specs.Limits.{Becomes, Bounded, KeepsOtherCells, between, machine_in, row_with};
 ghost use Rattle.processor.specs.Placed.{step_in};
-ghost use Rattle.processor.specs.Reports.{OfCell, p_after, p_after_protection};
+ghost use Rattle.processor.specs.Reports.{OfCell, p_after};
 ghost use Rattle.processor.specs.Results.{effected, puts_left, words_left};
 ghost use Rattle.processor.specs.Step.{answer_of, machine_after, tried};
 
@@ -62,9 +62,9 @@ fn attempt<S: Store>(
 {
     let words = Words::new(store, limits);
     let word = words.fetch(RelativeAddress(registers.p()))?;
-    let done = instruction_effect(&words, registers, &Fields::of(word))?;
-    put_all(store, limits, done.puts)?;
-    Ok(done)
+    let pending = instruction_effect(&words, registers, &Fields::of(word))?;
+    put_all(store, limits, pending.puts)?;
+    Ok(pending)
 }
 
 // One step under the guard.
@@ -90,8 +90,8 @@ pub(crate) fn guarded_step<S: Store>(
         accepted: false,
     };
     match attempt(store, limits, guard.registers) {
-        Ok(done) => {
-            guard.registers.set_p(done.next.p_after(p));
+        Ok(pending) => {
+            guard.registers.set_p(pending.next.p_after(p));
             guard.accepted = true;
             Ok(())
         }
@@ -102,7 +102,7 @@ pub(crate) fn guarded_step<S: Store>(
     }
 }
 
-// One step. It answers the report if it is interrupted, and that leaves all but P.
+// One step. If it is interrupted, it answers the report, and all but P is as it was.
 pub fn step<S: Store>(
     store: &mut S,
     limits: Limits,

@@ -1,4 +1,4 @@
-// What instructions put: all of it is tried before any of it is done.
+// What instructions put: all of it, or none of it where a try fails.
 ghost use Rattle.std.specs.Prelude.{◌≡◌, ◌+◌, OnErr, OnOk, is_ok, if◌then◌else◌};
 ghost use Rattle.store.specs.Functions.{half_put, put_half_answer, put_whole_answer, whole_put};
 ghost use Rattle.processor.specs.Beneath.{PutDoes, PutsDo};
@@ -44,7 +44,7 @@ fn try_whole<S: Store>(store: &S, limits: Limits, address: RelativeAddress) -> R
 }
 
 // Tried, and done if it does not fail.
-#[tactic(auto, using(crate::proofs::Between::exists_between, crate::proofs::Between::whole_between, crate::proofs::Between::nothing_becomes))]
+#[tactic(auto, using(crate::proofs::Between::exists_between, crate::proofs::Between::nothing_becomes))]
 fn put_whole<S: Store>(
     store: &mut S,
     limits: Limits,
@@ -60,7 +60,7 @@ fn put_whole<S: Store>(
     Ok(store.put_whole(cell, word.get())?)
 }
 
-#[tactic(auto, using(crate::proofs::Between::exists_between, crate::proofs::Between::cell_between, crate::proofs::Between::half_between, crate::proofs::Between::nothing_becomes))]
+#[tactic(auto, using(crate::proofs::Between::exists_between, crate::proofs::Between::cell_between, crate::proofs::Between::nothing_becomes))]
 fn put_half<S: Store>(
     store: &mut S,
     limits: Limits,

@@ -9,7 +9,7 @@ returns-in-Ok-clause-registers g c =
     let m = machine_in (g.S.Store.cells c.args.store.now) c.args.limits c.args.registers.now in
     let given = c.in-Ok.ensures in
     rw (c.drop-guard.ensures, c.set_p.ensures, c.p_after.ensures, c.p-p.ensures.value)
-    (registers_if_completed m given.bounded.0 c.p-p.ensures.fits (effect c.attempt.new.registers c.in-Ok.done) (sym given.tried))
+    (registers_if_completed m given.bounded.0 c.p-p.ensures.fits (effect c.attempt.new.registers c.in-Ok.pending) (sym given.tried))
 
 pub returns-clause-registers : goal.returns-clause-registers
 returns-clause-registers g c =
