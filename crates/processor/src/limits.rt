@@ -14,7 +14,7 @@ const MOST_WORDS: u32 = 32_768;
 // So many cells from the lower limit on: at most 32,768, and none past the 131,072 that a store can have.
 #[derive(Clone, Copy, Debug, PartialEq, Eq)]
 pub struct Limits {
-    lower: u32,
+    lower: CellAddress,
     length: u32,
 }
 
@@ -23,11 +23,11 @@ impl Model for Limits {
 
     ghost Value = { Limits };
 
-    ghost view = { λ l. record { lower = l.lower; length = l.length } };
+    ghost view = { λ l. record { lower = l.lower.0; length = l.length } };
 
-    ghost invariant = { λ l. Bounded (record { lower = l.lower; length = l.length }) };
+    ghost invariant = { λ l. Bounded (record { lower = l.lower.0; length = l.length }) };
 
-    ghost inverse = { λ v. record { lower = v.lower; length = v.length } };
+    ghost inverse = { λ v. record { lower = record { 0 = v.lower }; length = v.length } };
 }
 
 impl Limits {
@@ -38,10 +38,7 @@ impl Limits {
         if length > MOST_WORDS || lower.0 > MOST_CELLS - length {
             return None;
         }
-        Some(Limits {
-            lower: lower.0,
-            length,
-        })
+        Some(Limits { lower, length })
     }
 
     // The limits check, which alone makes a cell's address of a relative one.
@@ -51,7 +48,7 @@ impl Limits {
         ensures within { IfOk result (λ cell. (address.0 < self.length) × (cell.0 ≡ self.lower + address.0)) }
     {
         if address.0 < self.length {
-            Ok(CellAddress(self.lower + address.0))
+            Ok(CellAddress(self.lower.0 + address.0))
         } else {
             Err(ReferenceFault::Protection)
         }
