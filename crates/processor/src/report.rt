@@ -31,7 +31,7 @@ pub enum Report {
     TestAndSet(RelativeAddress),
 }
 
-// The causes of interrupts, which have the numbers 1 to 5 in this order.
+// The causes of interrupts; `cause_number` in specs/ gives their numbers.
 #[derive(Clone, Copy, Debug, PartialEq, Eq)]
 pub enum Cause {
     IllegalInstruction,
