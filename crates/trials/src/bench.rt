@@ -9,26 +9,26 @@ use stores::WordStore;
 use words::word_bits;
 
 // The number in each cell that is none of the worker's: both halves are spoiled, so a read that strays there would show.
-pub const AROUND: u32 = 0xc000_0000 + 0o1234567012;
+pub(crate) const AROUND: u32 = 0xc000_0000 + 0o1234567012;
 
 // The marks of a cell's number.
-pub const UPPER_SPOILED: u32 = 0x8000_0000;
+pub(crate) const UPPER_SPOILED: u32 = 0x8000_0000;
 
-pub const LOWER_SPOILED: u32 = 0x4000_0000;
+pub(crate) const LOWER_SPOILED: u32 = 0x4000_0000;
 
 // A worker by all that it has. A word is the number of its cell, with its marks; b[0] is 0.
 #[derive(Clone, Copy, Debug, PartialEq, Eq)]
-pub struct Worker {
-    pub words: [u32; 8],
-    pub a: u32,
-    pub q: u32,
-    pub b: [u32; 8],
-    pub p: u32,
+pub(crate) struct Worker {
+    pub(crate) words: [u32; 8],
+    pub(crate) a: u32,
+    pub(crate) q: u32,
+    pub(crate) b: [u32; 8],
+    pub(crate) p: u32,
 }
 
 impl Worker {
     // A worker whose first instruction is this one, with a word at 5; all else is 0.
-    pub fn doing(instruction: u32, word: u32) -> Worker {
+    pub(crate) fn doing(instruction: u32, word: u32) -> Worker {
         Worker {
             words: [instruction, 0, 0, 0, 0, word, 0, 0],
             a: 0,
@@ -39,7 +39,7 @@ impl Worker {
     }
 
     // The same with something in every register.
-    pub fn busy(instruction: u32, word: u32) -> Worker {
+    pub(crate) fn busy(instruction: u32, word: u32) -> Worker {
         Worker {
             a: 0o1234567012,
             q: 0o7654321076,
@@ -73,7 +73,7 @@ impl Worker {
     }
 
     // The worker after one step, and the answer of the step. Its words are the cells 3 to 10 of 13, and the others stay.
-    pub fn stepped<R: Abort + Alloc<A = Global>>(
+    pub(crate) fn stepped<R: Abort + Alloc<A = Global>>(
         &self,
         rt: &R,
     ) -> Result<(Worker, Result<(), Report>), Fail> {
@@ -119,12 +119,16 @@ impl Worker {
     }
 
     // The step is done, and this is the worker after it.
-    pub fn becomes<R: Abort + Alloc<A = Global>>(&self, rt: &R, after: Worker) -> Result<(), Fail> {
+    pub(crate) fn becomes<R: Abort + Alloc<A = Global>>(
+        &self,
+        rt: &R,
+        after: Worker,
+    ) -> Result<(), Fail> {
         self.ends(rt, Ok(()), after)
     }
 
     // The step interrupts with this report; after it all is as before but P.
-    pub fn reports<R: Abort + Alloc<A = Global>>(
+    pub(crate) fn reports<R: Abort + Alloc<A = Global>>(
         &self,
         rt: &R,
         report: Report,
@@ -135,7 +139,7 @@ impl Worker {
 }
 
 // A row of a table: an instruction at 0; the word at 5, A and Q before its step; the same after it; and P after it.
-pub fn row<R: Abort + Alloc<A = Global>>(
+pub(crate) fn row<R: Abort + Alloc<A = Global>>(
     rt: &R,
     instruction: u32,
     before: [u32; 3],
@@ -159,18 +163,18 @@ pub fn row<R: Abort + Alloc<A = Global>>(
 }
 
 // The reports, of relative addresses.
-pub fn illegal(address: u32) -> Report {
+pub(crate) fn illegal(address: u32) -> Report {
     Report::IllegalInstruction(RelativeAddress(address))
 }
 
-pub fn protection(kind: ReferenceKind, address: u32) -> Report {
+pub(crate) fn protection(kind: ReferenceKind, address: u32) -> Report {
     Report::Protection(Reference {
         kind,
         address: RelativeAddress(address),
     })
 }
 
-pub fn parity(kind: ReferenceKind, address: u32, half: Half) -> Report {
+pub(crate) fn parity(kind: ReferenceKind, address: u32, half: Half) -> Report {
     Report::Parity(
         Reference {
             kind,
