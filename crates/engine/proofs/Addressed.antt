@@ -19,7 +19,7 @@ use Rattle.engine.specs.declared.place.Worker.{Worker}
 use Rattle.engine.specs.declared.refusal.Refusal.{Refusal}
 use Rattle.engine.specs.declared.refusal.Refusal.TheVariants as refusal
 use Rattle.engine.specs.Exchanges.{after}
-use Rattle.engine.specs.Installation.{Installation, holder, if_occupied, made, place_at, worker_at, Done, span_in}
+use Rattle.engine.specs.Installation.{Installation, holder, if_occupied, made, place_at, worker_at, Done, limits_in}
 use Rattle.engine.specs.Refusals.{refusal_of}
 use Rattle.engine.specs.Laws.{WordsBelowLength}
 use Rattle.engine.specs.Own.{Own}
@@ -28,9 +28,9 @@ use Rattle.engine.specs.Refusals.{require, by_store}
 use Rattle.engine.specs.Serving.{served, load, look}
 use Rattle.engine.proofs.Histories.{its_words}
 use Rattle.engine.proofs.Lawful.{Untold, taken_untold, told, sound_after}
-use Rattle.engine.proofs.Places.{some_is, holder_span}
+use Rattle.engine.proofs.Places.{some_is, holder_limits}
 use Rattle.engine.proofs.Results.{OkIs}
-use Rattle.engine.proofs.Sound.{Sound}
+use Rattle.engine.specs.Sound.{Sound}
 
 -- what holds of every refusal that a call can meet holds of the one that is told
 by_err : (P : Refusal → Type 0) (i : Installation) (c : Call (List ℕ)) (e : Refusal) (r : Result Done Refusal) → OkIs Untold r → IfErr r P → refusal_of (taken_or_refused i c r).answer ≡ Some e → P e
@@ -77,18 +77,18 @@ module _ (r : ℕ) where
   holder_past : (n : ℕ) (i : Installation) (p : ℕ) → IfErr (holder i p) (Past n)
   holder_past n i p = required_err (Past n) (nat_le p 7) refusal.NoSuchPlace _ (λ _ same. absurd cc) (λ exists. if_occupied_past n i.row (place_at i.places p))
 
-  ask_past : (i : Installation) → Sound i → (p : ℕ) (w : Worker) → worker_at i p ≡ Some w → (what : Request (List ℕ)) → ((n : ℕ) (o : Own) → n ≤ length o.words → IfErr (served n o what) (Past n)) → IfErr (ask i p what) (Past w.span.length)
+  ask_past : (i : Installation) → Sound i → (p : ℕ) (w : Worker) → worker_at i p ≡ Some w → (what : Request (List ℕ)) → ((n : ℕ) (o : Own) → n ≤ length o.words → IfErr (served n o what) (Past n)) → IfErr (ask i p what) (Past w.limits.length)
   ask_past i sound p w at what past =
-      then_err (Past w.span.length) (holder i p) _ (holder_past w.span.length i p) (λ h held.
-      let span : h.span ≡ w.span = some_is h.span w.span (sym (holder_span i p h held).1 ∙ ap span_in at) in
-      let here = past h.span.length h.own (omega (arith, its_words i sound p h held)) in
-      then_err (Past w.span.length) (served h.span.length h.own what) _ (subst (λ s. IfErr (served h.span.length h.own what) (Past s.length)) span here) (λ s _. tt))
+      then_err (Past w.limits.length) (holder i p) _ (holder_past w.limits.length i p) (λ h held.
+      let limits : h.limits ≡ w.limits = some_is h.limits w.limits (sym (holder_limits i p h held).1 ∙ ap limits_in at) in
+      let here = past h.limits.length h.own (omega (arith, its_words i sound p h held)) in
+      then_err (Past w.limits.length) (served h.limits.length h.own what) _ (subst (λ s. IfErr (served h.limits.length h.own what) (Past s.length)) limits here) (λ s _. tt))
 
 pub words_below_length : WordsBelowLength
 unfolding served
 words_below_length row calls p w address at =
     let i = after (made row) calls in
     let asked = ask_past address.0 i (sound_after row calls) p w at in (
-      λ same. of_refusal (Past address.0 w.span.length) i (call.Ask p (request.Look address)) _ (asked (request.Look address) (look_past address.0)) same refl,
-      λ word same. of_refusal (Past address.0 w.span.length) i (call.Ask p (request.Load address word)) _ (asked (request.Load address word) (λ n o words. load_past address.0 n o words word)) same refl,
+      λ same. of_refusal (Past address.0 w.limits.length) i (call.Ask p (request.Look address)) _ (asked (request.Look address) (look_past address.0)) same refl,
+      λ word same. of_refusal (Past address.0 w.limits.length) i (call.Ask p (request.Load address word)) _ (asked (request.Load address word) (λ n o words. load_past address.0 n o words word)) same refl,
     )

@@ -15,17 +15,17 @@ use Rattle.engine.specs.Own.{Own}
 use Rattle.engine.specs.Performing.{taken_or_refused, request_refused, performed}
 use Rattle.engine.specs.Serving.{Served, served, serving}
 use Rattle.engine.proofs.Histories.{its_lies, as_many}
-use Rattle.engine.proofs.Places.{Holds, holder_is, holder_holds, holder_span, set_here}
+use Rattle.engine.proofs.Places.{Holds, holder_is, holder_holds, holder_limits, set_here}
 use Rattle.engine.proofs.Results.{ok_is}
 use Rattle.engine.proofs.Rows.{words_there}
-use Rattle.engine.proofs.Sound.{Sound}
+use Rattle.engine.specs.Sound.{Sound}
 use Rattle.engine.specs.declared.answer.State.{State}
 use Rattle.engine.specs.declared.answer.State.TheVariants as state
 use Rattle.engine.specs.declared.place.Place.TheVariants.{Free}
 use Rattle.engine.specs.declared.place.Worker.{Worker}
 use Rattle.processor.specs.Then.{◌>>=◌}
 
-by_its_state : (row : List Cell) (state : State) (w : Worker) → if_occupied row (place_by state w) ≡ Ok (holder_of row state w)
+pub by_its_state : (row : List Cell) (state : State) (w : Worker) → if_occupied row (place_by state w) ≡ Ok (holder_of row state w)
 by_its_state row state.Ready w = refl
 by_its_state row (state.Held report) w = refl
 
@@ -69,37 +69,37 @@ seen_after n o (c ∷ cs) = seen_after n (called n o c).own cs
 
 module _ (i : Installation) (p : ℕ) (h : Holder) (sound : Sound i) (held : holder i p ≡ Ok h) where
   abbrev n : ℕ
-  n = h.span.length
+  n = h.limits.length
 
   exists : p ≤ 7
-  exists = (holder_span i p h held).0
+  exists = (holder_limits i p h held).0
 
   -- put back at its place, it is found there
-  put_back : (own : Own) → length own.words ≡ n → holder (with_own i p h.span own) p ≡ Ok (record { span = h.span; own = own })
+  put_back : (own : Own) → length own.words ≡ n → holder (with_own i p h.limits own) p ≡ Ok (record { limits = h.limits; own = own })
   put_back own as_many =
-      let row = row_with i.row h.span.lower.0 n own.words in
-      holder_is (with_own i p h.span own) p exists
+      let row = row_with i.row h.limits.lower n own.words in
+      holder_is (with_own i p h.limits own) p exists
       ∙ ap (if_occupied row) (set_here i.places p _ (omega (arith, exists, sound.eight)))
-      ∙ by_its_state row own.state (record { span = h.span; registers = own.registers })
-      ∙ ap (λ words. Ok (record { span = h.span; own = record { state = own.state; registers = own.registers; words = words } })) (words_there i.row h.span.lower.0 n (its_lies i sound p h held).inside own.words as_many)
+      ∙ by_its_state row own.state (record { limits = h.limits; registers = own.registers })
+      ∙ ap (λ words. Ok (record { limits = h.limits; own = record { state = own.state; registers = own.registers; words = words } })) (words_there i.row h.limits.lower n (its_lies i sound p h held).inside own.words as_many)
 
-  -- as its own words, those of its span
-  pub own_words : h.own.words ≡ words_in i.row h.span.lower.0 n
+  -- as its own words, those of its limits
+  pub own_words : h.own.words ≡ words_in i.row h.limits.lower n
   own_words = (ok_is (λ h. (p ≤ 7) × Holds i.row (place_at i.places p) h) (holder i p) h held (holder_holds i p)).1.words_are
 
   module _ (what : Request (List ℕ)) where
     abbrev pub Alike : Done → Served → Type 0
-    Alike t s = (t.answer ≡ s.answer) × (holder t.installation p ≡ Ok (record { span = h.span; own = s.own }))
+    Alike t s = (t.answer ≡ s.answer) × (holder t.installation p ≡ Ok (record { limits = h.limits; own = s.own }))
 
     by_served : (r : Result Served Refusal) → ((s : Served) → r ≡ Ok s → length s.own.words ≡ n)
-        → Alike (taken_or_refused i (call.Ask p what) (r >>= (λ s. Ok (record { answer = s.answer; installation = with_own i p h.span s.own })))) (served_or_refused h.own what r)
+        → Alike (taken_or_refused i (call.Ask p what) (r >>= (λ s. Ok (record { answer = s.answer; installation = with_own i p h.limits s.own })))) (served_or_refused h.own what r)
     by_served (Ok s) as_many = (refl, put_back s.own (as_many s refl))
     by_served (Err e) as_many = (refl, held)
 
     -- it answers as alone, and what is left of it is what is left of it alone
     pub asked_alone : Alike (performed i (call.Ask p what)) (asked n h.own what)
     unfolding performed
-    asked_alone = subst (λ r. Alike (taken_or_refused i (call.Ask p what) (r >>= (λ h. served h.span.length h.own what >>= (λ s. Ok (record { answer = s.answer; installation = with_own i p h.span s.own }))))) (asked n h.own what)) (sym held) (by_served (served n h.own what) (as_many i sound p h held what))
+    asked_alone = subst (λ r. Alike (taken_or_refused i (call.Ask p what) (r >>= (λ h. served h.limits.length h.own what >>= (λ s. Ok (record { answer = s.answer; installation = with_own i p h.limits s.own }))))) (asked n h.own what)) (sym held) (by_served (served n h.own what) (as_many i sound p h held what))
 
   -- it is retired: its place is free, and the cells stay
   abbrev pub freed : Installation
@@ -114,4 +114,4 @@ module _ (i : Installation) (p : ℕ) (h : Holder) (sound : Sound i) (held : hol
 
   pub freed_told : (performed freed (call.Ask p request.Tell)).answer ≡ answer.Told (Err refusal.PlaceFree)
   unfolding performed
-  freed_told = ap (λ r. (taken_or_refused freed (call.Ask p request.Tell) (r >>= (λ h. served h.span.length h.own request.Tell >>= (λ s. Ok (record { answer = s.answer; installation = with_own freed p h.span s.own }))))).answer) freed_holder
+  freed_told = ap (λ r. (taken_or_refused freed (call.Ask p request.Tell) (r >>= (λ h. served h.limits.length h.own request.Tell >>= (λ s. Ok (record { answer = s.answer; installation = with_own freed p h.limits s.own }))))).answer) freed_holder

@@ -26,11 +26,12 @@ use Rattle.engine.specs.Own.{Own, is_held}
 use Rattle.engine.specs.Performing.{ask, taken}
 use Rattle.engine.specs.Refusals.{by_record}
 use Rattle.engine.specs.Serving.{Served, served, run_ready, machine_of, answered}
-use Rattle.engine.proofs.Admitting.{new_worker, of_admit}
+use Rattle.engine.proofs.Passing.{new_worker, of_admit}
 use Rattle.engine.proofs.Histories.{after_keeps, its_place, its_lies}
 use Rattle.engine.proofs.Places.{set_all, free_at, some_is, none_is, worker_by}
 use Rattle.engine.proofs.Results.{OkIs, then_ok, ok_is, required_then}
-use Rattle.engine.proofs.Sound.{Sound, made_sound}
+use Rattle.engine.specs.Sound.{Sound}
+use Rattle.engine.proofs.Sound.{made_sound}
 
 read_fitted : (r : Result Registers RecordFault) → OkIs Fits r → OkIs Fits (by_record r)
 read_fitted (Ok r) fits = fits
@@ -83,15 +84,15 @@ module _ (i : Installation) (sound : Sound i) (all : AllFit i) where
 
   held_fits : (p : ℕ) (h : Holder) → holder i p ≡ Ok h → Fits h.own.registers
   held_fits p h held =
-      let w : Worker = record { span = h.span; registers = h.own.registers } in
+      let w : Worker = record { limits = h.limits; registers = h.own.registers } in
       all p w (ap worker_of (its_place i sound p h held).place_is ∙ worker_by h.own.state w)
 
   ask_fitted : (p : ℕ) (what : Request (List ℕ)) → OkIs Fitted (ask i p what)
   ask_fitted p what =
       then_ok Fitted (holder i p) _ (λ h held.
-      then_ok Fitted (served h.span.length h.own what) _ (λ s gave.
-      let left : Worker = record { span = h.span; registers = s.own.registers } in
-      let fits : Fits s.own.registers = ok_is (StillFits h.span.length (its_lies i sound p h held).few h.own (held_fits p h held)) (served h.span.length h.own what) s gave (served_fitted h.span.length (its_lies i sound p h held).few h.own (held_fits p h held) what) in
+      then_ok Fitted (served h.limits.length h.own what) _ (λ s gave.
+      let left : Worker = record { limits = h.limits; registers = s.own.registers } in
+      let fits : Fits s.own.registers = ok_is (StillFits h.limits.length (its_lies i sound p h held).few h.own (held_fits p h held)) (served h.limits.length h.own what) s gave (served_fitted h.limits.length (its_lies i sound p h held).few h.own (held_fits p h held) what) in
       set_all PlaceFits i.places p (place_by s.own.state left) all (λ w at. by_state_fits s.own.state left w fits at)))
 
   retire_fitted : (p : ℕ) → OkIs Fitted (retire i p)

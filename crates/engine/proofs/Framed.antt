@@ -13,13 +13,13 @@ use Rattle.engine.specs.Installation.{Installation, Done, holder, made, worker_o
 use Rattle.engine.specs.Laws.{Has, OnlyItsCells}
 use Rattle.engine.specs.Performing.{ask, taken, performed}
 use Rattle.engine.specs.Serving.{served}
-use Rattle.engine.proofs.Admitting.{of_admit}
+use Rattle.engine.proofs.Passing.{of_admit}
 use Rattle.engine.proofs.Histories.{of_call, its_lies, its_place, as_many}
 use Rattle.engine.proofs.Lawful.{sound_after}
 use Rattle.engine.proofs.Places.{worker_by}
 use Rattle.engine.proofs.Results.{OkIs, then_ok}
 use Rattle.engine.proofs.Rows.{words_above, words_below}
-use Rattle.engine.proofs.Sound.{Sound}
+use Rattle.engine.specs.Sound.{Sound}
 
 module _ (i : Installation) (sound : Sound i) (cell : ℕ) where
   abbrev Stays : Done → Type 0
@@ -31,19 +31,19 @@ module _ (i : Installation) (sound : Sound i) (cell : ℕ) where
   ask_stays : (p : ℕ) (what : Request (List ℕ)) → NotIts (call.Ask p what) → OkIs Stays (ask i p what)
   ask_stays p what other =
       then_ok Stays (holder i p) _ (λ h held.
-      then_ok Stays (served h.span.length h.own what) _ (λ s gave.
-      let w : Worker = record { span = h.span; registers = h.own.registers } in
+      then_ok Stays (served h.limits.length h.own what) _ (λ s gave.
+      let w : Worker = record { limits = h.limits; registers = h.own.registers } in
       let at : worker_at i p ≡ Some w = ap worker_of (its_place i sound p h held).place_is ∙ worker_by h.own.state w in
       let same : (p == p) ≡ true = grind arith in
       let inside = (its_lies i sound p h held).inside in
       let many = as_many i sound p h held what s gave in
       ⊎_elim
-      (λ below. words_below i.row h.span.lower.0 h.span.length inside s.own.words many cell 1 (omega (arith, below)))
+      (λ below. words_below i.row h.limits.lower h.limits.length inside s.own.words many cell 1 (omega (arith, below)))
       (λ from. ⊎_elim
       (λ within. absurd (other p w same at (from, within)))
-      (λ past. words_above i.row h.span.lower.0 h.span.length inside s.own.words many cell 1 past)
-      (cases_lt cell (h.span.lower.0 + h.span.length)))
-      (cases_lt cell h.span.lower.0)))
+      (λ past. words_above i.row h.limits.lower h.limits.length inside s.own.words many cell 1 past)
+      (cases_lt cell (h.limits.lower + h.limits.length)))
+      (cases_lt cell h.limits.lower)))
 
   taken_stays : (c : Call (List ℕ)) → NotIts c → OkIs Stays (taken i c)
   taken_stays (call.Admit p lower terms) other = of_admit i p lower terms Stays (λ passes. refl)

@@ -12,12 +12,13 @@ use Rattle.engine.specs.Exchanges.{after}
 use Rattle.engine.specs.Installation.{Installation, Holder, holder, place_at, Done}
 use Rattle.engine.specs.Performing.{ask, taken, refused, taken_or_refused, performed}
 use Rattle.engine.specs.Serving.{Served, served}
-use Rattle.engine.proofs.Admitting.{new_worker, of_admit}
-use Rattle.engine.proofs.Places.{Holds, holder_span, holder_holds}
+use Rattle.engine.proofs.Passing.{new_worker, of_admit}
+use Rattle.engine.proofs.Places.{Holds, holder_limits, holder_holds}
 use Rattle.engine.proofs.Results.{OkIs, then_ok, ok_is}
 use Rattle.engine.proofs.Rows.{words_number}
 use Rattle.engine.proofs.Served.{served_kept}
-use Rattle.engine.proofs.Sound.{Sound, Lies, asked_sound, retired_sound, admitted_sound}
+use Rattle.engine.specs.Sound.{Sound, Lies}
+use Rattle.engine.proofs.Sound.{asked_sound, retired_sound, admitted_sound}
 
 -- what holds of a refused call, and of a call that is taken, holds of every call
 by_result : (P : Done → Type 0) (i : Installation) (c : Call (List ℕ)) (r : Result Done Refusal) → ((e : Refusal) → P (record { answer = refused c e; installation = i })) → OkIs P r → P (taken_or_refused i c r)
@@ -33,14 +34,14 @@ module _ (i : Installation) (sound : Sound i) (p : ℕ) (h : Holder) (held : hol
   pub its_place : Holds i.row (place_at i.places p) h
   its_place = (ok_is _ (holder i p) h held (holder_holds i p)).1
 
-  pub its_lies : Lies i.row h.span
-  its_lies = sound.lies p h.span (holder_span i p h held).1
+  pub its_lies : Lies i.row h.limits
+  its_lies = sound.lies p h.limits (holder_limits i p h held).1
 
-  pub its_words : length h.own.words ≡ h.span.length
-  its_words = ap length its_place.words_are ∙ words_number i.row h.span.lower.0 h.span.length its_lies.inside
+  pub its_words : length h.own.words ≡ h.limits.length
+  its_words = ap length its_place.words_are ∙ words_number i.row h.limits.lower h.limits.length its_lies.inside
 
-  pub as_many : (what : Request (List ℕ)) (s : Served) → served h.span.length h.own what ≡ Ok s → length s.own.words ≡ h.span.length
-  as_many what s gave = ok_is (λ s. length s.own.words ≡ length h.own.words) (served h.span.length h.own what) s gave (served_kept h.span.length h.own what) ∙ its_words
+  pub as_many : (what : Request (List ℕ)) (s : Served) → served h.limits.length h.own what ≡ Ok s → length s.own.words ≡ h.limits.length
+  as_many what s gave = ok_is (λ s. length s.own.words ≡ length h.own.words) (served h.limits.length h.own what) s gave (served_kept h.limits.length h.own what) ∙ its_words
 
 abbrev Leaves : Done → Type 0
 Leaves t = Sound t.installation
@@ -50,7 +51,7 @@ module _ (i : Installation) (sound : Sound i) where
   admit_sound p lower terms = of_admit i p lower terms Leaves (λ passes. admitted_sound i p (new_worker lower terms) sound passes.exists passes.lies passes.apart)
 
   retire_sound : (p : ℕ) → OkIs Leaves (retire i p)
-  retire_sound p = then_ok Leaves (holder i p) _ (λ h held. retired_sound i p sound (holder_span i p h held).0)
+  retire_sound p = then_ok Leaves (holder i p) _ (λ h held. retired_sound i p sound (holder_limits i p h held).0)
 
   span_sound : (p : ℕ) → OkIs Leaves (span_of i p)
   span_sound p = then_ok Leaves (holder i p) _ (λ h held. sound)
@@ -58,7 +59,7 @@ module _ (i : Installation) (sound : Sound i) where
   ask_sound : (p : ℕ) (what : Request (List ℕ)) → OkIs Leaves (ask i p what)
   ask_sound p what =
       then_ok Leaves (holder i p) _ (λ h held.
-      then_ok Leaves (served h.span.length h.own what) _ (λ s gave.
+      then_ok Leaves (served h.limits.length h.own what) _ (λ s gave.
       asked_sound i p h s.own sound held (as_many i sound p h held what s gave)))
 
   taken_sound : (c : Call (List ℕ)) → OkIs Leaves (taken i c)

@@ -9,20 +9,21 @@ use Rattle.engine.specs.declared.call.Call.TheVariants as call
 use Rattle.engine.specs.declared.call.Request.{Request}
 use Rattle.engine.specs.declared.call.Request.TheVariants as request
 use Rattle.engine.specs.declared.refusal.Refusal.{Refusal}
-use Rattle.engine.specs.Admission.{share}
+use Rattle.processor.specs.Limits.{share}
 use Rattle.engine.specs.Exchanges.{after}
-use Rattle.engine.specs.Installation.{Installation, holder, made, Done, span_in}
+use Rattle.engine.specs.Installation.{Installation, holder, made, Done, limits_in}
 use Rattle.engine.specs.Refusals.{refusal_of}
 use Rattle.engine.specs.Laws.{RefusedLeaveAll, RefusedSaveLeavesBuffer, NoCellIsShared, RowKeepsLength, WorkersLieInRow}
 use Rattle.engine.specs.Performing.{ask, taken, refused, request_refused, performed}
-use Rattle.engine.proofs.Admitting.{of_admit}
+use Rattle.engine.proofs.Passing.{of_admit}
 use Rattle.engine.proofs.Histories.{of_call, performed_sound, after_sound, its_lies, as_many}
 use Rattle.engine.proofs.Places.{some_is}
 use Rattle.engine.proofs.Results.{OkIs, then_ok, ok_is}
 use Rattle.engine.proofs.Rows.{row_number}
 use Rattle.engine.specs.Own.{Own}
 use Rattle.engine.specs.Serving.{served, run_ready}
-use Rattle.engine.proofs.Sound.{Sound, made_sound}
+use Rattle.engine.specs.Sound.{Sound}
+use Rattle.engine.proofs.Sound.{made_sound}
 
 -- after a history from the making
 pub sound_after : (row : List Cell) (calls : List (Call (List ℕ))) → Sound (after (made row) calls)
@@ -32,7 +33,7 @@ pub no_cell_shared : NoCellIsShared
 no_cell_shared row calls p q v w cell at_p at_q has_v has_w = ⊎_elim
     (λ same. same)
     (λ other.
-    let apart : share v.span w.span ≡ false = (sound_after row calls).apart p q v.span w.span other (ap span_in at_p) (ap span_in at_q) in
+    let apart : share v.limits w.limits ≡ false = (sound_after row calls).apart p q v.limits w.limits other (ap limits_in at_p) (ap limits_in at_q) in
     absurd (grind (arith, apart, has_v, has_w)))
     (cases_eq p q)
 
@@ -44,8 +45,8 @@ module _ (i : Installation) (sound : Sound i) where
   ask_as_long : (p : ℕ) (what : Request (List ℕ)) → OkIs (AsLong i) (ask i p what)
   ask_as_long p what =
       then_ok (AsLong i) (holder i p) _ (λ h held.
-      then_ok (AsLong i) (served h.span.length h.own what) _ (λ s gave.
-      row_number i.row h.span.lower.0 h.span.length (its_lies i sound p h held).inside s.own.words (as_many i sound p h held what s gave)))
+      then_ok (AsLong i) (served h.limits.length h.own what) _ (λ s gave.
+      row_number i.row h.limits.lower h.limits.length (its_lies i sound p h held).inside s.own.words (as_many i sound p h held what s gave)))
 
   taken_as_long : (c : Call (List ℕ)) → OkIs (AsLong i) (taken i c)
   taken_as_long (call.Admit p lower terms) = of_admit i p lower terms (AsLong i) (λ passes. refl)
@@ -64,7 +65,7 @@ row_keeps_length row calls = after_as_long (made row) calls (made_sound row)
 
 pub workers_lie_in_row : WorkersLieInRow
 workers_lie_in_row row calls p w at =
-    let lies = (sound_after row calls).lies p w.span (ap span_in at) in
+    let lies = (sound_after row calls).lies p w.limits (ap limits_in at) in
     (lies.some, lies.few, omega (arith, lies.inside, row_keeps_length row calls))
 
 run_untold : (state : State) (n : ℕ) (o : Own) (budget : ℕ) → OkIs (λ s. refusal_of s.answer ≡ None) (run_ready state n o budget)
@@ -87,7 +88,7 @@ Untold t = refusal_of t.answer ≡ None
 
 pub taken_untold : (i : Installation) (c : Call (List ℕ)) → OkIs Untold (taken i c)
 taken_untold i (call.Admit p lower terms) = of_admit i p lower terms Untold (λ passes. refl)
-taken_untold i (call.Ask p what) = then_ok Untold (holder i p) _ (λ h held. then_ok Untold (served h.span.length h.own what) _ (λ s gave. ok_is _ (served h.span.length h.own what) s gave (served_untold h.span.length h.own what)))
+taken_untold i (call.Ask p what) = then_ok Untold (holder i p) _ (λ h held. then_ok Untold (served h.limits.length h.own what) _ (λ s gave. ok_is _ (served h.limits.length h.own what) s gave (served_untold h.limits.length h.own what)))
 taken_untold i (call.Retire p) = search (then_ok)
 taken_untold i (call.Span p) = search (then_ok)
 taken_untold i (call.FixedAddress number cell) = search (then_ok)

@@ -1,10 +1,13 @@
 mod Addressed
-mod Admitting
+mod Passing
+mod Again
 mod Alone
+mod Asked
 mod Fitted
 mod Framed
 mod Histories
 mod Isolated
+mod Keeping
 mod Lawful
 mod Lives
 mod Numbered
@@ -15,4 +18,7 @@ mod Results
 mod Room
 mod Rows
 mod Served
+mod Serves
 mod Sound
+mod Split
+mod Unconcerned

@@ -1,4 +1,4 @@
--- A call that is not for the worker at a place leaves that worker as it is: its span, state, registers and words.
+-- A call that is not for the worker at a place leaves that worker as it is: its limits, state, registers and words.
 use Rattle.std.proofs.Common.{ℕ, ◌≡◌, ◌≢◌, ◌≤◌, ◌+◌, true, false, List, length, slice_set, Result, Ok, Err, arith, ⊎_elim, ◌⊎◌, ◌∙◌, ap, sym, subst, refl}
 use Rattle.std.proofs.lemmas.Bool.{cases_lt, and_cases}
 use Rattle.store.specs.Cells.{Cell}
@@ -9,26 +9,25 @@ use Rattle.engine.specs.declared.call.Request.{Request}
 use Rattle.engine.specs.declared.call.Terms.{Terms}
 use Rattle.engine.specs.declared.place.Place.{Place}
 use Rattle.engine.specs.declared.place.Place.TheVariants.{Free, Ready, Held}
-use Rattle.engine.specs.declared.place.Span.{Span}
+use Rattle.processor.specs.Limits.{Limits, words_in, row_with, share}
 use Rattle.engine.specs.declared.refusal.Refusal.{Refusal}
 use Rattle.engine.specs.declared.refusal.Refusal.TheVariants as refusal
-use Rattle.engine.specs.Admission.{admit, retire, share, is_free}
+use Rattle.engine.specs.Admission.{admit, retire, is_free}
 use Rattle.engine.specs.FixedAddress.{fixed_address}
 use Rattle.engine.specs.Exchanges.{is_for}
-use Rattle.processor.specs.Limits.{words_in, row_with}
 use Rattle.engine.specs.Installation.{Installation, Holder, holder, if_occupied, place_at, Done}
 use Rattle.engine.specs.Performing.{ask, taken, performed}
 use Rattle.engine.specs.Serving.{served}
-use Rattle.engine.proofs.Admitting.{of_admit}
+use Rattle.engine.proofs.Passing.{of_admit}
 use Rattle.engine.proofs.Histories.{of_call, its_lies, as_many}
-use Rattle.engine.proofs.Places.{Holds, holder_is, taken_is, holder_span, holder_holds, set_there}
+use Rattle.engine.proofs.Places.{Holds, holder_is, taken_is, holder_limits, holder_holds, set_there}
 use Rattle.engine.proofs.Results.{OkIs, then_ok, ok_is}
 use Rattle.engine.proofs.Rows.{words_above, words_below}
-use Rattle.engine.proofs.Sound.{Sound}
+use Rattle.engine.specs.Sound.{Sound}
 
 -- a worker with the words of a row
 abbrev reworded : List Cell → Holder → Holder
-reworded row h = record { span = h.span; own = record { state = h.own.state; registers = h.own.registers; words = words_in row h.span.lower.0 h.span.length } }
+reworded row h = record { limits = h.limits; own = record { state = h.own.state; registers = h.own.registers; words = words_in row h.limits.lower h.limits.length } }
 
 abbrev all_reworded : List Cell → Result Holder Refusal → Result Holder Refusal
 all_reworded row (Ok h) = Ok (reworded row h)
@@ -40,19 +39,19 @@ taken_reworded row new (Ready w) = refl
 taken_reworded row new (Held w report) = refl
 
 -- a place has the same worker in another row that has the same words there
-same_taken : (row new : List Cell) (place : Place) (h : Holder) → words_in new h.span.lower.0 h.span.length ≡ h.own.words → if_occupied row place ≡ Ok h → if_occupied new place ≡ Ok h
+same_taken : (row new : List Cell) (place : Place) (h : Holder) → words_in new h.limits.lower h.limits.length ≡ h.own.words → if_occupied row place ≡ Ok h → if_occupied new place ≡ Ok h
 same_taken row new place h same held =
     taken_reworded row new place
     ∙ ap (all_reworded new) held
-    ∙ ap (λ words. Ok (record { span = h.span; own = record { state = h.own.state; registers = h.own.registers; words = words } })) same
+    ∙ ap (λ words. Ok (record { limits = h.limits; own = record { state = h.own.state; registers = h.own.registers; words = words } })) same
 
--- the words of a span stay where those of another are put with which it shares no cell
-apart_words : (row : List Cell) (s t : Span) (words : List Cell) → s.lower.0 + s.length ≤ length row → length words ≡ s.length → share t s ≡ false → words_in (row_with row s.lower.0 s.length words) t.lower.0 t.length ≡ words_in row t.lower.0 t.length
+-- the words of a limits stay where those of another are put with which it shares no cell
+apart_words : (row : List Cell) (s t : Limits) (words : List Cell) → s.lower + s.length ≤ length row → length words ≡ s.length → share t s ≡ false → words_in (row_with row s.lower s.length words) t.lower t.length ≡ words_in row t.lower t.length
 apart_words row s t words inside as_many apart =
-    let sides : (s.lower.0 + s.length ≤ t.lower.0) ⊎ (t.lower.0 + t.length ≤ s.lower.0) = grind (arith, cases_lt, and_cases, apart) in
+    let sides : (s.lower + s.length ≤ t.lower) ⊎ (t.lower + t.length ≤ s.lower) = grind (arith, cases_lt, and_cases, apart) in
     ⊎_elim
-    (λ above. words_above row s.lower.0 s.length inside words as_many t.lower.0 t.length above)
-    (λ below. words_below row s.lower.0 s.length inside words as_many t.lower.0 t.length below)
+    (λ above. words_above row s.lower s.length inside words as_many t.lower t.length above)
+    (λ below. words_below row s.lower s.length inside words as_many t.lower t.length below)
     sides
 
 is_not_free : (row : List Cell) (place : Place) (h : Holder) → if_occupied row place ≡ Ok h → is_free place ≡ true → ⊥
@@ -68,10 +67,10 @@ module _ (i : Installation) (sound : Sound i) (p : ℕ) (h : Holder) (held : hol
   Stays t = holder t.installation p ≡ Ok h
 
   -- where the place and the row are set elsewhere
-  stays : (row : List Cell) (q : ℕ) (place : Place) → p ≢ q → words_in row h.span.lower.0 h.span.length ≡ words_in i.row h.span.lower.0 h.span.length → holder (record { row = row; places = slice_set i.places q place }) p ≡ Ok h
+  stays : (row : List Cell) (q : ℕ) (place : Place) → p ≢ q → words_in row h.limits.lower h.limits.length ≡ words_in i.row h.limits.lower h.limits.length → holder (record { row = row; places = slice_set i.places q place }) p ≡ Ok h
   stays row q place other same =
       let j : Installation = record { row = row; places = slice_set i.places q place } in
-      holder_is j p (holder_span i p h held).0
+      holder_is j p (holder_limits i p h held).0
       ∙ ap (if_occupied row) (set_there i.places q place p other)
       ∙ same_taken i.row row (place_at i.places p) h (same ∙ sym holds.words_are) (taken_is i p h held)
 
@@ -82,10 +81,10 @@ module _ (i : Installation) (sound : Sound i) (p : ℕ) (h : Holder) (held : hol
   ask_stays : (q : ℕ) (what : Request (List ℕ)) → p ≢ q → OkIs Stays (ask i q what)
   ask_stays q what other =
       then_ok Stays (holder i q) _ (λ g g_held.
-      then_ok Stays (served g.span.length g.own what) _ (λ s gave.
-      stays (row_with i.row g.span.lower.0 g.span.length s.own.words) q _ other
-      (apart_words i.row g.span h.span s.own.words (its_lies i sound q g g_held).inside (as_many i sound q g g_held what s gave)
-      (sound.apart p q h.span g.span other (holder_span i p h held).1 (holder_span i q g g_held).1))))
+      then_ok Stays (served g.limits.length g.own what) _ (λ s gave.
+      stays (row_with i.row g.limits.lower g.limits.length s.own.words) q _ other
+      (apart_words i.row g.limits h.limits s.own.words (its_lies i sound q g g_held).inside (as_many i sound q g g_held what s gave)
+      (sound.apart p q h.limits g.limits other (holder_limits i p h held).1 (holder_limits i q g g_held).1))))
 
   retire_stays : (q : ℕ) → p ≢ q → OkIs Stays (retire i q)
   retire_stays q other = then_ok Stays (holder i q) _ (λ g held. stays i.row q Free other refl)

@@ -27,11 +27,12 @@ use Rattle.engine.specs.Laws.{NoReportOfNoCell, NoRunEndsInNoCell}
 use Rattle.engine.specs.Own.{Own}
 use Rattle.engine.specs.Performing.{ask, taken}
 use Rattle.engine.specs.Serving.{Served, served, run_ready, machine_of, state_after}
-use Rattle.engine.proofs.Admitting.{of_admit}
+use Rattle.engine.proofs.Passing.{of_admit}
 use Rattle.engine.proofs.Histories.{after_keeps, its_place, its_words, of_call}
 use Rattle.engine.proofs.Places.{set_all, free_at, some_is, none_is}
 use Rattle.engine.proofs.Results.{OkIs, then_ok, ok_is}
-use Rattle.engine.proofs.Sound.{Sound, made_sound}
+use Rattle.engine.specs.Sound.{Sound}
+use Rattle.engine.proofs.Sound.{made_sound}
 
 -- a state's report, if it has one, does not tell it
 abbrev StateOfCell : State → Type 0
@@ -85,10 +86,10 @@ module _ (i : Installation) (sound : Sound i) (all : AllOfCell i) where
   ask_leaves : (p : ℕ) (what : Request (List ℕ)) → OkIs TakenOfCell (ask i p what)
   ask_leaves p what =
       then_ok TakenOfCell (holder i p) _ (λ h held.
-      then_ok TakenOfCell (served h.span.length h.own what) _ (λ s gave.
-      let words : h.span.length ≤ length h.own.words = omega (arith, its_words i sound p h held) in
+      then_ok TakenOfCell (served h.limits.length h.own what) _ (λ s gave.
+      let words : h.limits.length ≤ length h.own.words = omega (arith, its_words i sound p h held) in
       let there : StateOfCell h.own.state = of_state h.own.state _ (subst PlaceOfCell (its_place i sound p h held).place_is (all p)) in
-      set_all PlaceOfCell i.places p _ all (by_state s.own.state _ (ok_is LeftOfCell (served h.span.length h.own what) s gave (served_leaves h.span.length h.own words there what)))))
+      set_all PlaceOfCell i.places p _ all (by_state s.own.state _ (ok_is LeftOfCell (served h.limits.length h.own what) s gave (served_leaves h.limits.length h.own words there what)))))
 
   taken_leaves : (c : Call (List ℕ)) → OkIs TakenOfCell (taken i c)
   taken_leaves (call.Admit p lower terms) = of_admit i p lower terms TakenOfCell (λ passes. set_all PlaceOfCell i.places p _ all tt)
@@ -127,8 +128,8 @@ module _ (n : ℕ) (o : Own) (all : n ≤ length o.words) where
 ask_tells : (i : Installation) → Sound i → (p budget : ℕ) → OkIs (λ t. Tells t.answer) (ask i p (request.Run budget))
 ask_tells i sound p budget =
     then_ok (λ t. Tells t.answer) (holder i p) _ (λ h held.
-    then_ok (λ t. Tells t.answer) (served h.span.length h.own (request.Run budget)) _ (λ s gave.
-    ok_is (λ s. Tells s.answer) (served h.span.length h.own (request.Run budget)) s gave (run_tells h.span.length h.own (omega (arith, its_words i sound p h held)) budget)))
+    then_ok (λ t. Tells t.answer) (served h.limits.length h.own (request.Run budget)) _ (λ s gave.
+    ok_is (λ s. Tells s.answer) (served h.limits.length h.own (request.Run budget)) s gave (run_tells h.limits.length h.own (omega (arith, its_words i sound p h held)) budget)))
 
 pub no_run_ends_in_no_cell : NoRunEndsInNoCell
 no_run_ends_in_no_cell row calls p budget =

@@ -1,4 +1,4 @@
--- Whether an admit is taken, and how it is refused, follows from the number of cells and the spans of the workers.
+-- Whether an admit is taken, and how it is refused, follows from the number of cells and the limits of the workers.
 use Rattle.std.proofs.Common.{ℕ, ◌≡◌, ◌+◌, Bool, true, false, not, ◌&&◌, ◌||◌, List, [], ◌∷◌, length, map, nat_le, nat_lt, Option, Some, None, Result, slice_index_or, refl, sym, ap, ◌∙◌}
 use Rattle.std.proofs.Math.ListN.{get_or-map}
 use Rattle.std.specs.List.{list_any}
@@ -7,47 +7,47 @@ use Rattle.engine.specs.declared.call.Call.{Call}
 use Rattle.engine.specs.declared.call.Call.TheVariants as call
 use Rattle.engine.specs.declared.place.Place.{Place}
 use Rattle.engine.specs.declared.place.Place.TheVariants.{Free, Ready, Held}
-use Rattle.engine.specs.declared.place.Span.{Span}
+use Rattle.processor.specs.Limits.{Limits, share}
 use Rattle.engine.specs.declared.refusal.Refusal.{Refusal}
 use Rattle.engine.specs.declared.refusal.Refusal.TheVariants as refusal
-use Rattle.engine.specs.Admission.{is_free, overlaps_any, share, shares}
+use Rattle.engine.specs.Admission.{is_free, overlaps_any, shares}
 use Rattle.engine.specs.Installation.{Installation, Done, place_at, worker_of}
-use Rattle.engine.specs.Laws.{span_of_place, AdmitsBySpans}
+use Rattle.engine.specs.Laws.{limits_of_place, AdmitsBySpans}
 use Rattle.engine.specs.Performing.{taken_or_refused, performed}
 use Rattle.engine.specs.Refusals.{require}
 
--- the tests by the spans alone
-abbrev is_none : Option Span → Bool
+-- the tests by the limits alone
+abbrev is_none : Option Limits → Bool
 is_none None = true
 is_none (Some s) = false
 
-abbrev share_if : Span → Option Span → Bool
+abbrev share_if : Limits → Option Limits → Bool
 share_if s None = false
 share_if s (Some t) = share s t
 
-free_by_span : (place : Place) → is_free place ≡ is_none (span_of_place place)
-free_by_span Free = refl
-free_by_span (Ready w) = refl
-free_by_span (Held w report) = refl
+free_by_limits : (place : Place) → is_free place ≡ is_none (limits_of_place place)
+free_by_limits Free = refl
+free_by_limits (Ready w) = refl
+free_by_limits (Held w report) = refl
 
-shares_by_span : (s : Span) (place : Place) → shares s (worker_of place) ≡ share_if s (span_of_place place)
-shares_by_span s Free = refl
-shares_by_span s (Ready w) = refl
-shares_by_span s (Held w report) = refl
+shares_by_limits : (s : Limits) (place : Place) → shares s (worker_of place) ≡ share_if s (limits_of_place place)
+shares_by_limits s Free = refl
+shares_by_limits s (Ready w) = refl
+shares_by_limits s (Held w report) = refl
 
--- places with the same spans, one by one
-same_free : (ps qs : List Place) → map span_of_place ps ≡ map span_of_place qs → (p : ℕ) → is_free (place_at ps p) ≡ is_free (place_at qs p)
+-- places with the same limits, one by one
+same_free : (ps qs : List Place) → map limits_of_place ps ≡ map limits_of_place qs → (p : ℕ) → is_free (place_at ps p) ≡ is_free (place_at qs p)
 same_free ps qs same p =
-    free_by_span (place_at ps p)
-    ∙ ap is_none (sym (get_or-map span_of_place ps p Free) ∙ ap (λ spans. slice_index_or spans p None) same ∙ get_or-map span_of_place qs p Free)
-    ∙ sym (free_by_span (place_at qs p))
+    free_by_limits (place_at ps p)
+    ∙ ap is_none (sym (get_or-map limits_of_place ps p Free) ∙ ap (λ limits. slice_index_or limits p None) same ∙ get_or-map limits_of_place qs p Free)
+    ∙ sym (free_by_limits (place_at qs p))
 
-any_by_span : (s : Span) (ps : List Place) → overlaps_any s ps ≡ list_any (share_if s) (map span_of_place ps)
-any_by_span s [] = refl
-any_by_span s (place ∷ ps) = ap (λ b. b || overlaps_any s ps) (shares_by_span s place) ∙ ap (λ b. share_if s (span_of_place place) || b) (any_by_span s ps)
+any_by_limits : (s : Limits) (ps : List Place) → overlaps_any s ps ≡ list_any (share_if s) (map limits_of_place ps)
+any_by_limits s [] = refl
+any_by_limits s (place ∷ ps) = ap (λ b. b || overlaps_any s ps) (shares_by_limits s place) ∙ ap (λ b. share_if s (limits_of_place place) || b) (any_by_limits s ps)
 
-same_overlaps : (s : Span) (ps qs : List Place) → map span_of_place ps ≡ map span_of_place qs → overlaps_any s ps ≡ overlaps_any s qs
-same_overlaps s ps qs same = any_by_span s ps ∙ ap (list_any (share_if s)) same ∙ sym (any_by_span s qs)
+same_overlaps : (s : Limits) (ps qs : List Place) → map limits_of_place ps ≡ map limits_of_place qs → overlaps_any s ps ≡ overlaps_any s qs
+same_overlaps s ps qs same = any_by_limits s ps ∙ ap (list_any (share_if s)) same ∙ sym (any_by_limits s qs)
 
 -- two results are answered alike
 module _ (c : Call (List ℕ)) (i j : Installation) where
@@ -62,13 +62,13 @@ module _ (c : Call (List ℕ)) (i j : Installation) where
 
 pub admits_by_spans : AdmitsBySpans
 unfolding performed
-admits_by_spans i j p lower terms same_row same_spans =
+admits_by_spans i j p lower terms same_row same_limits =
     let c : Call (List ℕ) = call.Admit p lower terms in
-    let span : Span = record { lower = lower; length = terms.length } in
+    let limits : Limits = record { lower = lower.0; length = terms.length } in
     alike_after c i j (nat_le p 7) (nat_le p 7) refusal.NoSuchPlace _ _ refl
-    (alike_after c i j (is_free (place_at i.places p)) (is_free (place_at j.places p)) refusal.PlaceOccupied _ _ (same_free i.places j.places same_spans p)
+    (alike_after c i j (is_free (place_at i.places p)) (is_free (place_at j.places p)) refusal.PlaceOccupied _ _ (same_free i.places j.places same_limits p)
     (alike_after c i j (nat_le 1 terms.length && nat_le terms.length 32768) (nat_le 1 terms.length && nat_le terms.length 32768) refusal.BadLength _ _ refl
     (alike_after c i j (nat_le (lower.0 + terms.length) (length i.row)) (nat_le (lower.0 + terms.length) (length j.row)) refusal.PastStore _ _ (ap (nat_le (lower.0 + terms.length)) same_row)
-    (alike_after c i j (not (overlaps_any span i.places)) (not (overlaps_any span j.places)) refusal.CellShared _ _ (ap not (same_overlaps span i.places j.places same_spans))
+    (alike_after c i j (not (overlaps_any limits i.places)) (not (overlaps_any limits j.places)) refusal.CellShared _ _ (ap not (same_overlaps limits i.places j.places same_limits))
     (alike_after c i j (nat_lt terms.entry.0 terms.length) (nat_lt terms.entry.0 terms.length) refusal.EntryPastLength _ _ refl
     refl)))))

@@ -3,6 +3,7 @@ use Rattle.std.specs.Prelude.{ℕ, ◌+◌, Bool, true, false, not, ◌&&◌, Li
 use Rattle.std.specs.List.{list_any}
 use Rattle.store.specs.declared.address.CellAddress.{CellAddress}
 use Rattle.records.specs.Registers.{starting_at}
+use Rattle.processor.specs.Limits.{Limits, share}
 use Rattle.processor.specs.Then.{◌>>=◌}
 use Rattle.engine.specs.declared.answer.Answer.TheVariants as answer
 use Rattle.engine.specs.declared.call.Terms.{Terms}
@@ -20,30 +21,27 @@ is_free Free = true
 is_free (Ready w) = false
 is_free (Held w report) = false
 
--- two spans share a cell
-abbrev pub share : Span → Span → Bool
-share s t = nat_lt s.lower.0 (t.lower.0 + t.length) && nat_lt t.lower.0 (s.lower.0 + s.length)
+-- and with those of a worker, if there is one
+abbrev pub shares : Limits → Option Worker → Bool
+shares limits None = false
+shares limits (Some w) = share limits w.limits
 
-abbrev pub shares : Span → Option Worker → Bool
-shares span None = false
-shares span (Some w) = share span w.span
-
--- a span shares a cell with the worker of some place
-abbrev pub overlaps_any : Span → List Place → Bool
-overlaps_any span places = list_any (λ place. shares span (worker_of place)) places
+-- limits have a cell in common with those of the worker of some place
+abbrev pub overlaps_any : Limits → List Place → Bool
+overlaps_any limits places = list_any (λ place. shares limits (worker_of place)) places
 
 -- the new worker is ready to run from its entry, with all else 0 in its registers; it has the words that lie in its cells
 abbrev pub admit : Installation → ℕ → CellAddress → Terms → Result Done Refusal
-admit i p lower terms = let span : Span = record { lower = lower; length = terms.length } in do
+admit i p lower terms = let limits : Limits = record { lower = lower.0; length = terms.length } in do
   exists ← require (nat_le p 7) refusal.NoSuchPlace
   free ← require (is_free (place_at i.places p)) refusal.PlaceOccupied
   good ← require (nat_le 1 terms.length && nat_le terms.length 32768) refusal.BadLength
   inside ← require (nat_le (lower.0 + terms.length) (length i.row)) refusal.PastStore
-  apart ← require (not (overlaps_any span i.places)) refusal.CellShared
+  apart ← require (not (overlaps_any limits i.places)) refusal.CellShared
   below ← require (nat_lt terms.entry.0 terms.length) refusal.EntryPastLength
   Ok (record {
     answer = answer.Admitted (Ok tt);
-    installation = record i { places = slice_set i.places p (Ready (record { span = span; registers = starting_at terms.entry.0 })) };
+    installation = record i { places = slice_set i.places p (Ready (record { limits = limits; registers = starting_at terms.entry.0 })) };
   })
 
 -- the place is free again, and the cells stay
@@ -53,7 +51,10 @@ retire i p = do
   Ok (record { answer = answer.Retired (Ok tt); installation = record i { places = slice_set i.places p Free } })
 
 -- the lower limit and the length
+abbrev pub span_by : Limits → Span
+span_by limits = record { lower = record { 0 = limits.lower }; length = limits.length }
+
 abbrev pub span_of : Installation → ℕ → Result Done Refusal
 span_of i p = do
   h ← holder i p
-  Ok (record { answer = answer.Spanned (Ok h.span); installation = i })
+  Ok (record { answer = answer.Spanned (Ok (span_by h.limits)); installation = i })

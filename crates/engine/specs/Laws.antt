@@ -15,7 +15,7 @@ use Rattle.engine.specs.declared.call.Request.TheVariants as request
 use Rattle.engine.specs.declared.call.Terms.{Terms}
 use Rattle.engine.specs.declared.place.Place.{Place}
 use Rattle.engine.specs.declared.place.Place.TheVariants.{Held}
-use Rattle.engine.specs.declared.place.Span.{Span}
+use Rattle.processor.specs.Limits.{Limits}
 use Rattle.engine.specs.declared.place.Worker.{Worker}
 use Rattle.engine.specs.declared.refusal.Refusal.{Refusal}
 use Rattle.engine.specs.declared.refusal.Refusal.TheVariants.{AddressPastLength}
@@ -25,7 +25,7 @@ use Rattle.processor.specs.Run.{report_of}
 use Rattle.engine.specs.Exchanges.{after, is_for}
 use Rattle.engine.specs.FixedAddress.{cause_numbered}
 use Rattle.engine.specs.Refusals.{refusal_of}
-use Rattle.engine.specs.Installation.{Installation, made, place_at, worker_at, span_in, worker_of}
+use Rattle.engine.specs.Installation.{Installation, made, place_at, worker_at, limits_in, worker_of}
 use Rattle.engine.specs.Performing.{refused, performed}
 
 -- a call whose answer tells a refusal leaves the installation as it was, and answers no more than the refusal
@@ -36,7 +36,7 @@ RefusedLeaveAll = (i : Installation) (c : Call (List ℕ)) (e : Refusal)
 
 -- a worker has a cell
 abbrev pub Has : Worker → ℕ → Type 0
-Has w cell = (w.span.lower.0 ≤ cell) × (cell < w.span.lower.0 + w.span.length)
+Has w cell = (w.limits.lower ≤ cell) × (cell < w.limits.lower + w.limits.length)
 
 -- a worker of an installation from its making, after some calls
 abbrev pub IsAt : List Cell → List (Call (List ℕ)) → ℕ → Worker → Type 0
@@ -59,15 +59,15 @@ OnlyItsCells = (row : List Cell) (calls : List (Call (List ℕ))) (c : Call (Lis
     → ((p : ℕ) (w : Worker) → is_for p c ≡ true → IsAt row calls p w → Has w cell → ⊥)
     → cell_at (performed (after (made row) calls) c).installation.row cell ≡ cell_at (after (made row) calls).row cell
 
--- the span of a place's worker
-abbrev pub span_of_place : Place → Option Span
-span_of_place place = span_in (worker_of place)
+-- the limits of a place's worker
+abbrev pub limits_of_place : Place → Option Limits
+limits_of_place place = limits_in (worker_of place)
 
--- an admit is answered alike wherever there are as many cells and the places have the same spans, whatever else is different
+-- an admit is answered alike wherever there are as many cells and the places have the same limits, whatever else is different
 abbrev pub AdmitsBySpans : Type 0
 AdmitsBySpans = (i j : Installation) (p : ℕ) (lower : CellAddress) (terms : Terms)
     → length i.row ≡ length j.row
-    → map span_of_place i.places ≡ map span_of_place j.places
+    → map limits_of_place i.places ≡ map limits_of_place j.places
     → (performed i (call.Admit p lower terms)).answer ≡ (performed j (call.Admit p lower terms)).answer
 
 -- the row has as many cells as at the making
@@ -78,7 +78,7 @@ RowKeepsLength = (row : List Cell) (calls : List (Call (List ℕ))) → length (
 abbrev pub WorkersLieInRow : Type 0
 WorkersLieInRow = (row : List Cell) (calls : List (Call (List ℕ))) (p : ℕ) (w : Worker)
     → IsAt row calls p w
-    → (1 ≤ w.span.length) × (w.span.length ≤ 32768) × (w.span.lower.0 + w.span.length ≤ length row)
+    → (1 ≤ w.limits.length) × (w.limits.length ≤ 32768) × (w.limits.lower + w.limits.length ≤ length row)
 
 -- the registers of each worker have no more bits than they can have
 abbrev pub RegistersFit : Type 0
@@ -105,8 +105,8 @@ refusal_after row calls p what = refusal_of (performed (after (made row) calls) 
 abbrev pub WordsBelowLength : Type 0
 WordsBelowLength = (row : List Cell) (calls : List (Call (List ℕ))) (p : ℕ) (w : Worker) (address : RelativeAddress)
     → IsAt row calls p w
-    → (refusal_after row calls p (request.Look address) ≡ Some AddressPastLength → w.span.length ≤ address.0)
-    × ((word : ℕ) → refusal_after row calls p (request.Load address word) ≡ Some AddressPastLength → w.span.length ≤ address.0)
+    → (refusal_after row calls p (request.Look address) ≡ Some AddressPastLength → w.limits.length ≤ address.0)
+    × ((word : ℕ) → refusal_after row calls p (request.Load address word) ≡ Some AddressPastLength → w.limits.length ≤ address.0)
 
 -- the causes have the numbers 1 to 5, and no other number is one's
 abbrev pub CausesAreNumbered : Type 0

@@ -1,4 +1,5 @@
 pub mod Admission
+pub mod Bytes
 pub mod Exchanges
 pub mod FixedAddress
 pub mod Installation
@@ -6,5 +7,8 @@ pub mod Isolation
 pub mod Laws
 pub mod Own
 pub mod Performing
+pub mod Installed
+pub mod Sound
 pub mod Refusals
+pub mod Replayed
 pub mod Serving

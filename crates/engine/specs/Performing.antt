@@ -17,8 +17,8 @@ use Rattle.engine.specs.Serving.{served}
 abbrev pub ask : Installation → ℕ → Request (List ℕ) → Result Done Refusal
 ask i p what = do
   h ← holder i p
-  s ← served h.span.length h.own what
-  Ok (record { answer = s.answer; installation = with_own i p h.span s.own })
+  s ← served h.limits.length h.own what
+  Ok (record { answer = s.answer; installation = with_own i p h.limits s.own })
 
 abbrev pub taken : Installation → Call (List ℕ) → Result Done Refusal
 taken i (call.Admit p lower terms) = admit i p lower terms

@@ -3,6 +3,8 @@ use Rattle.std.specs.Prelude.{ℕ, Bool, List, if◌then◌else◌, Option, Some
 use Rattle.store.specs.declared.fault.Fault.{Fault}
 use Rattle.store.specs.declared.fault.Fault.TheVariants as fault
 use Rattle.store.specs.declared.half.Half.{Half}
+use Rattle.processor.specs.declared.references.ReferenceFault.{ReferenceFault}
+use Rattle.processor.specs.declared.references.ReferenceFault.TheVariants as reference
 use Rattle.records.specs.declared.fault.BufferTooShort.{BufferTooShort}
 use Rattle.records.specs.declared.fault.RecordFault.{RecordFault}
 use Rattle.records.specs.declared.fault.RecordFault.TheVariants as record_fault
@@ -74,19 +76,30 @@ abbrev pub require : Bool → Refusal → Result (Unit {0}) Refusal
 require test refusal = if test then Ok tt else Err refusal
 
 -- the store's fault at a word as a refusal; a word that the store does not have is none of the worker's
+abbrev pub by_fault : Fault → Refusal
+by_fault fault.NoCell = AddressPastLength
+by_fault (fault.Spoiled half) = Spoiled half
+
 abbrev pub by_store : {X : Type 0} → Result X Fault → Result X Refusal
 by_store (Ok x) = Ok x
-by_store (Err fault.NoCell) = Err AddressPastLength
-by_store (Err (fault.Spoiled half)) = Err (Spoiled half)
+by_store (Err f) = Err (by_fault f)
+
+-- that a reference failed, as a refusal
+abbrev pub by_reference : ReferenceFault → Refusal
+by_reference reference.Protection = AddressPastLength
+by_reference (reference.Parity f) = by_fault f
 
 -- what is wrong with a buffer or a record as a refusal
 abbrev pub by_buffer : {X : Type 0} → Result X BufferTooShort → Result X Refusal
 by_buffer (Ok x) = Ok x
 by_buffer (Err e) = Err ShortBuffer
 
+abbrev pub by_record_fault : RecordFault → Refusal
+by_record_fault record_fault.TooShort = ShortRecord
+by_record_fault record_fault.WrongLength = RecordLength
+by_record_fault record_fault.WrongVersion = RecordVersion
+by_record_fault (record_fault.TooWide offset) = FieldTooWide offset
+
 abbrev pub by_record : {X : Type 0} → Result X RecordFault → Result X Refusal
 by_record (Ok x) = Ok x
-by_record (Err record_fault.TooShort) = Err ShortRecord
-by_record (Err record_fault.WrongLength) = Err RecordLength
-by_record (Err record_fault.WrongVersion) = Err RecordVersion
-by_record (Err (record_fault.TooWide offset)) = Err (FieldTooWide offset)
+by_record (Err f) = Err (by_record_fault f)

@@ -1,12 +1,6 @@
 // The laws of the definition of calls. Each function does nothing: its contract is all there is to it. They speak of the definition, in
 // specs/, and not yet of running code.
-ghost use Rattle.engine.specs.Isolation.{Isolation};
 ghost use Rattle.engine.specs.Laws.{RefusedLeaveAll, RefusedSaveLeavesBuffer, OnlyItsCells, NoCellIsShared, AdmitsBySpans, RowKeepsLength, WorkersLieInRow, RegistersFit, NoReportOfNoCell, NoRunEndsInNoCell, WordsBelowLength, CausesAreNumbered};
-
-// No worker's answers, registers or words depend on where it lies or on what else is called.
-pub fn definition_isolates_workers()
-    ensures { Isolation }
-{}
 
 // A refused call leaves the installation as it was, and a refused save its buffer.
 pub fn definition_leaves_all_on_refusal()

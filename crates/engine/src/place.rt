@@ -1,5 +1,5 @@
 // Places and their workers.
-use processor::Report;
+use processor::{Limits, Report};
 use records::Registers;
 use store::CellAddress;
 
@@ -12,7 +12,7 @@ pub struct Span {
 
 #[derive(Clone, Copy, Debug, PartialEq, Eq)]
 pub struct Worker {
-    pub span: Span,
+    pub limits: Limits,
     pub registers: Registers,
 }
 

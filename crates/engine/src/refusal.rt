@@ -1,5 +1,9 @@
 // Why a call was not taken.
-use store::Half;
+ghost use Rattle.std.specs.Prelude.{◌≡◌};
+
+use processor::ReferenceFault;
+use records::{BufferTooShort, RecordFault};
+use store::{Fault, Half};
 
 // The refusals, numbered from 1 in this order. A refused call leaves everything as it was.
 #[derive(Clone, Copy, Debug, PartialEq, Eq)]
@@ -42,4 +46,56 @@ pub enum Refusal {
     FieldTooWide(u32),
     // This half of the cell is spoiled.
     Spoiled(Half),
+}
+
+// A word that the store does not have is none of the worker's.
+impl From<Fault> for Refusal {
+    ghost use Rattle.engine.specs.Refusals.{by_fault};
+
+    ghost from_gives = { λ fault refusal. refusal ≡ by_fault fault };
+
+    fn from(fault: Fault) -> Self {
+        match fault {
+            Fault::NoCell => Refusal::AddressPastLength,
+            Fault::Spoiled(half) => Refusal::Spoiled(half),
+        }
+    }
+}
+
+impl From<ReferenceFault> for Refusal {
+    ghost use Rattle.engine.specs.Refusals.{by_reference};
+
+    ghost from_gives = { λ fault refusal. refusal ≡ by_reference fault };
+
+    fn from(fault: ReferenceFault) -> Self {
+        match fault {
+            ReferenceFault::Protection => Refusal::AddressPastLength,
+            ReferenceFault::Parity(fault) => fault.into(),
+        }
+    }
+}
+
+impl From<BufferTooShort> for Refusal {
+    ghost use Rattle.engine.specs.declared.refusal.Refusal.TheVariants.{ShortBuffer};
+
+    ghost from_gives = { λ fault refusal. refusal ≡ ShortBuffer };
+
+    fn from(_: BufferTooShort) -> Self {
+        Refusal::ShortBuffer
+    }
+}
+
+impl From<RecordFault> for Refusal {
+    ghost use Rattle.engine.specs.Refusals.{by_record_fault};
+
+    ghost from_gives = { λ fault refusal. refusal ≡ by_record_fault fault };
+
+    fn from(fault: RecordFault) -> Self {
+        match fault {
+            RecordFault::TooShort => Refusal::ShortRecord,
+            RecordFault::WrongLength => Refusal::RecordLength,
+            RecordFault::WrongVersion => Refusal::RecordVersion,
+            RecordFault::TooWide(offset) => Refusal::FieldTooWide(offset),
+        }
+    }
 }

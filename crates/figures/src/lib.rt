@@ -60,8 +60,8 @@ pub fn worked_figures()
     ensures ends { ends_by_retire 0 (Ask 0 Tell ∷ Retire 1 ∷ []) ≡ true }
     ensures ends_at_retire { ends_by_retire 0 (Ask 0 Tell ∷ Retire 0 ∷ []) ≡ true }
     ensures goes_on_after_retire { ends_by_retire 0 (Retire 0 ∷ Ask 1 Tell ∷ []) ≡ false }
-    ensures first_cell { Has (record { span = record { lower = record { 0 = 2 }; length = 3 }; registers = starting_at 0 }) 2 }
-    ensures last_cell { Has (record { span = record { lower = record { 0 = 2 }; length = 3 }; registers = starting_at 0 }) 4 }
+    ensures first_cell { Has (record { limits = record { lower = 2; length = 3 }; registers = starting_at 0 }) 2 }
+    ensures last_cell { Has (record { limits = record { lower = 2; length = 3 }; registers = starting_at 0 }) 4 }
     ensures executive_return_told { told_by (ExecutiveReturn (relative 10)) ≡ record { cause = 4; address = 10; kind = None; fault = None } }
     ensures write_protection_told { told_by (Protection (reference Write 7)) ≡ record { cause = 2; address = 7; kind = Some Write; fault = None } }
     ensures fetch_protection_told { told_by (Protection (reference Fetch 8)) ≡ record { cause = 2; address = 8; kind = Some Fetch; fault = None } }

@@ -1,4 +1,4 @@
-mod Between
+pub mod Between
 mod Chosen
 mod Doing
 mod EffectsFit

@@ -1,5 +1,5 @@
 -- Where a worker's words lie: its limits, and the words between them.
-use Rattle.std.specs.Prelude.{◌≡◌, ℕ, ◌+◌, ◌<◌, ◌≤◌, ◌⊎◌, List, ◌++◌, length, take, drop}
+use Rattle.std.specs.Prelude.{◌≡◌, ℕ, ◌+◌, ◌<◌, ◌≤◌, ◌⊎◌, Bool, ◌&&◌, nat_lt, List, ◌++◌, length, take, drop}
 use Rattle.store.specs.Cells.{Cell, cell_at, most_cells}
 use Rattle.records.specs.Registers.{Registers}
 use Rattle.processor.specs.Machine.{Machine}
@@ -15,6 +15,10 @@ most_words = 32768
 
 abbrev pub Bounded : Limits → Type 0
 Bounded l = (l.length ≤ most_words) × (l.lower + l.length ≤ most_cells)
+
+-- two have a cell in common
+abbrev pub share : Limits → Limits → Bool
+share s t = nat_lt s.lower (t.lower + t.length) && nat_lt t.lower (s.lower + s.length)
 
 -- the words of so many cells of a row, from a lower limit on
 abbrev pub words_in : List Cell → (lower length : ℕ) → List Cell

@@ -25,9 +25,10 @@ mod transfers;
 mod writing;
 
 pub use address::RelativeAddress;
-pub use limits::Limits;
+pub use limits::{Limits, MOST_WORDS};
 use operation::{Computation, Operation, Shifted};
 pub use outcome::{Ending, Ran};
+pub use references::ReferenceFault;
 pub use report::{Cause, Reference, ReferenceKind, Report};
 pub use running::run;
 pub use stepping::step;

@@ -1,7 +1,7 @@
 // A worker's limits: where its words lie.
 ghost use Rattle.std.specs.Prelude.{◌≡◌, ◌+◌, ◌&&◌, ◌<◌, nat_le, nat_lt, IfOk, Ok, Err, Some, None, if◌then◌else◌};
 ghost use Rattle.store.specs.Cells.{most_cells};
-ghost use Rattle.processor.specs.Limits.{Bounded, most_words};
+ghost use Rattle.processor.specs.Limits.{Bounded, most_words, share};
 
 use super::RelativeAddress;
 use super::references::ReferenceFault;
@@ -9,7 +9,7 @@ use std::marker::Model;
 use store::{CellAddress, MOST_CELLS};
 
 // The most words that a worker has.
-const MOST_WORDS: u32 = 32_768;
+pub const MOST_WORDS: u32 = 32_768;
 
 // So many cells from the lower limit on: at most 32,768, and none past the 131,072 that a store can have.
 #[derive(Clone, Copy, Debug, PartialEq, Eq)]
@@ -41,8 +41,38 @@ impl Limits {
         Some(Limits { lower, length })
     }
 
+    // The lower limit.
+    pub fn lower(self) -> CellAddress
+        ensures value { result ≡ record { 0 = self.lower } }
+        ensures bounded { Bounded self }
+    {
+        self.lower
+    }
+
+    pub fn length(self) -> u32
+        ensures value { result ≡ self.length }
+        ensures bounded { Bounded self }
+    {
+        self.length
+    }
+
+    // The address after the last cell.
+    pub fn end(self) -> u32
+        ensures value { result ≡ self.lower + self.length }
+        ensures bounded { Bounded self }
+    {
+        self.lower.0 + self.length
+    }
+
+    // Is there a cell within both?
+    pub fn overlap(self, other: Limits) -> bool
+        ensures { result ≡ share self other }
+    {
+        self.lower.0 < other.end() && other.lower.0 < self.end()
+    }
+
     // The limits check, which alone makes a cell's address of a relative one.
-    pub(crate) fn cell(self, address: RelativeAddress) -> Result<CellAddress, ReferenceFault>
+    pub fn cell(self, address: RelativeAddress) -> Result<CellAddress, ReferenceFault>
         ensures value { result ≡ (if nat_lt address.0 self.length then Ok (record { 0 = self.lower + address.0 }) else Err ReferenceFault.Protection) }
         ensures bounded { Bounded self }
         ensures within { IfOk result (λ cell. (address.0 < self.length) × (cell.0 ≡ self.lower + address.0)) }

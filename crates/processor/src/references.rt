@@ -13,7 +13,7 @@ use words::Word;
 
 // Why a reference fails: past the length there is no word, and at the word the store may have a fault.
 #[derive(Clone, Copy, Debug, PartialEq, Eq)]
-pub(crate) enum ReferenceFault {
+pub enum ReferenceFault {
     Protection,
     Parity(Fault),
 }

@@ -1,0 +1,5 @@
+use Rattle.engine.proofs.Keeping.{performs_sound}
+use Rattle.engine.proofs.installation.Installation.run.Goals as goal
+
+pub invariant_of-self : goal.invariant_of-self
+invariant_of-self g c = performs_sound g.S.Store.cells _ _ _ _ c.self.invariant c.run_worker.ensures.performed

@@ -1,0 +1,46 @@
+// Calls as values.
+ghost use Rattle.std.specs.Prelude.{◌≡◌, vec_items};
+ghost use Rattle.engine.specs.Bytes.{answer_with, call_with, request_with};
+ghost use Rattle.engine.specs.Installed.{Performs};
+ghost use Rattle.engine.specs.declared.call.Call.TheVariants as call;
+
+use super::{Answer, Call, Installation, Request, fixed_address};
+use store::Store;
+
+impl<S: Store> Installation<S> {
+    // Does a call. The buffer of a save is handed on in its answer.
+    pub fn perform(&mut self, call: Call<Vec<u8>>) -> Answer<Vec<u8>>
+        ensures performed { Performs S.cells self.old (call_with vec_items call) (answer_with vec_items result) self.new }
+    {
+        match call {
+            Call::Admit {
+                place,
+                lower,
+                terms,
+            } => Answer::Admitted(self.admit(place, lower, terms)),
+            Call::Ask { place, request } => self.ask(place, request),
+            Call::Retire { place } => Answer::Retired(self.retire(place)),
+            Call::Span { place } => Answer::Spanned(self.span(place)),
+            Call::FixedAddress { cause, address } => {
+                Answer::FixedAddress(fixed_address(cause, address))
+            }
+        }
+    }
+
+    fn ask(&mut self, place: u32, request: Request<Vec<u8>>) -> Answer<Vec<u8>>
+        ensures performed { Performs S.cells self.old (call.Ask place (request_with vec_items request)) (answer_with vec_items result) self.new }
+    {
+        match request {
+            Request::Load { address, word } => Answer::Loaded(self.load(place, address, word)),
+            Request::Look { address } => Answer::Looked(self.look(place, address)),
+            Request::Run { budget } => Answer::Ran(self.run(place, budget)),
+            Request::Answer { a, q, p } => Answer::Answered(self.answer(place, a, q, p)),
+            Request::Save { mut buffer } => {
+                let saved = self.save(place, buffer.as_mut_slice());
+                Answer::Saved(saved, buffer)
+            }
+            Request::Restore { bytes } => Answer::Restored(self.restore(place, bytes.as_slice())),
+            Request::Tell => Answer::Told(self.tell(place)),
+        }
+    }
+}
