@@ -84,7 +84,7 @@ module _ (r : ℕ) where
       let here = past h.limits.length h.own (omega (arith, its_words i sound p h held)) in
       then_err (Past w.limits.length) (served h.limits.length h.own what) _ (subst (λ s. IfErr (served h.limits.length h.own what) (Past s.length)) limits here) (λ s _. tt))
 
-pub words_below_length : WordsBelowLength
+pub words_below_length : (row : List Cell) → WordsBelowLength row
 unfolding served
 words_below_length row calls p w address at =
     let i = after (made row) calls in

@@ -1,5 +1,6 @@
 -- The registers of every worker fit, after any history from the making.
 use Rattle.std.proofs.Common.{ℕ, ◌≡◌, ◌≤◌, ◌<◌, ◌^◌, ◌&&◌, List, nat_lt, Some, Result, Ok, Err, refl, sym, ap, ◌∙◌, subst, arith}
+use Rattle.store.specs.Cells.{Cell}
 use Rattle.store.specs.declared.address.CellAddress.{CellAddress}
 use Rattle.records.specs.Record.{record_read}
 use Rattle.records.specs.Registers.{Registers, Fits, starting_at}
@@ -110,5 +111,5 @@ module _ (i : Installation) (sound : Sound i) (all : AllFit i) where
   taken_fitted (call.Span p) = then_ok Fitted (holder i p) _ (λ h held. all)
   taken_fitted (call.FixedAddress number cell) = then_ok Fitted (fixed_address number cell.0) _ (λ a found. all)
 
-pub registers_fit : RegistersFit
+pub registers_fit : (row : List Cell) → RegistersFit row
 registers_fit row calls p w at = after_keeps AllFit taken_fitted (made row) calls (made_sound row) (λ q v free. absurd (none_is v (sym (ap worker_of (free_at 8 q)) ∙ free))) p w at

@@ -7,15 +7,14 @@ use Rattle.engine.specs.declared.call.Call.{Call}
 use Rattle.engine.specs.declared.call.Call.TheVariants as call
 use Rattle.engine.specs.declared.call.Request.{Request}
 use Rattle.engine.specs.declared.place.Worker.{Worker}
-use Rattle.engine.specs.Exchanges.{after, is_for}
+use Rattle.engine.specs.Exchanges.{is_for}
 use Rattle.processor.specs.Limits.{words_in}
-use Rattle.engine.specs.Installation.{Installation, Done, holder, made, worker_of, worker_at}
+use Rattle.engine.specs.Installation.{Installation, Done, holder, worker_of, worker_at}
 use Rattle.engine.specs.Laws.{Has, OnlyItsCells}
 use Rattle.engine.specs.Performing.{ask, taken, performed}
 use Rattle.engine.specs.Serving.{served}
 use Rattle.engine.proofs.Passing.{of_admit}
 use Rattle.engine.proofs.Histories.{of_call, its_lies, its_place, as_many}
-use Rattle.engine.proofs.Lawful.{sound_after}
 use Rattle.engine.proofs.Places.{worker_by}
 use Rattle.engine.proofs.Results.{OkIs, then_ok}
 use Rattle.engine.proofs.Rows.{words_above, words_below}
@@ -56,10 +55,9 @@ module _ (i : Installation) (sound : Sound i) (cell : ℕ) where
 first_word : (row : List Cell) (cell : ℕ) → cell_at (words_in row cell 1) 0 ≡ cell_at row cell
 first_word row cell = get_or-take 1 (drop cell row) 0 _ (omega arith) ∙ get_or-drop cell row 0 _ ∙ ap (cell_at row) (omega arith)
 
-pub only_its_cells : OnlyItsCells
-only_its_cells row calls c cell other =
-    let i = after (made row) calls in
+pub only_its_cells : (i : Installation) → Sound i → (c : Call (List ℕ)) → OnlyItsCells i c (performed i c).installation
+only_its_cells i sound c cell other =
     let j = (performed i c).installation in
     sym (first_word j.row cell)
-    ∙ ap (λ words. cell_at words 0) (of_call (Stays i (sound_after row calls) cell) i c (λ e. refl) (taken_stays i (sound_after row calls) cell c other))
+    ∙ ap (λ words. cell_at words 0) (of_call (Stays i sound cell) i c (λ e. refl) (taken_stays i sound cell c other))
     ∙ first_word i.row cell

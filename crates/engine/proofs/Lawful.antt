@@ -1,7 +1,9 @@
 -- The laws of calls and histories.
 use Rattle.std.proofs.Common.{ℕ, ◌≡◌, false, List, [], ◌∷◌, length, Some, None, Result, Ok, Err, refl, sym, ap, ◌∙◌, arith, ⊎_elim}
 use Rattle.std.proofs.lemmas.Bool.{cases_eq}
+use Rattle.std.specs.Prelude.{OnErr}
 use Rattle.store.specs.Cells.{Cell}
+use Rattle.engine.specs.declared.answer.Answer.{Answer}
 use Rattle.engine.specs.declared.answer.State.{State}
 use Rattle.engine.specs.declared.answer.State.TheVariants.{Ready, Held}
 use Rattle.engine.specs.declared.call.Call.{Call}
@@ -12,8 +14,8 @@ use Rattle.engine.specs.declared.refusal.Refusal.{Refusal}
 use Rattle.processor.specs.Limits.{share}
 use Rattle.engine.specs.Exchanges.{after}
 use Rattle.engine.specs.Installation.{Installation, holder, made, Done, limits_in}
-use Rattle.engine.specs.Refusals.{refusal_of}
-use Rattle.engine.specs.Laws.{RefusedLeaveAll, RefusedSaveLeavesBuffer, NoCellIsShared, RowKeepsLength, WorkersLieInRow}
+use Rattle.engine.specs.Refusals.{err_of, refusal_of}
+use Rattle.engine.specs.Laws.{NoCellIsShared, RowKeepsLength, WorkersLieInRow}
 use Rattle.engine.specs.Performing.{ask, taken, refused, request_refused, performed}
 use Rattle.engine.proofs.Passing.{of_admit}
 use Rattle.engine.proofs.Histories.{of_call, performed_sound, after_sound, its_lies, as_many}
@@ -29,7 +31,7 @@ use Rattle.engine.proofs.Sound.{made_sound}
 pub sound_after : (row : List Cell) (calls : List (Call (List ℕ))) → Sound (after (made row) calls)
 sound_after row calls = after_sound (made row) calls (made_sound row)
 
-pub no_cell_shared : NoCellIsShared
+pub no_cell_shared : (row : List Cell) → NoCellIsShared row
 no_cell_shared row calls p q v w cell at_p at_q has_v has_w = ⊎_elim
     (λ same. same)
     (λ other.
@@ -60,10 +62,10 @@ unfolding after
 after_as_long i [] sound = refl
 after_as_long i (c ∷ cs) sound = after_as_long (performed i c).installation cs (performed_sound i sound c) ∙ of_call (AsLong i) i c (λ e. refl) (taken_as_long i sound c)
 
-pub row_keeps_length : RowKeepsLength
+pub row_keeps_length : (row : List Cell) → RowKeepsLength row
 row_keeps_length row calls = after_as_long (made row) calls (made_sound row)
 
-pub workers_lie_in_row : WorkersLieInRow
+pub workers_lie_in_row : (row : List Cell) → WorkersLieInRow row
 workers_lie_in_row row calls p w at =
     let lies = (sound_after row calls).lies p w.limits (ap limits_in at) in
     (lies.some, lies.few, omega (arith, lies.inside, row_keeps_length row calls))
@@ -113,10 +115,18 @@ never : (P : Done → Type 0) (e : Refusal) (r : Result Done Refusal) → OkIs U
 never P e (Ok t) untold = λ same. let none : None ≡ Some e = sym untold ∙ same in absurd cc
 never P e (Err f) untold = tt
 
-pub refused_leave_all : RefusedLeaveAll
-refused_leave_all i c e = of_call (λ t. refusal_of t.answer ≡ Some e → t ≡ record { answer = refused c e; installation = i }) i c
+pub refused_leaves : (i : Installation) (c : Call (List ℕ)) (e : Refusal) → refusal_of (performed i c).answer ≡ Some e → performed i c ≡ record { answer = refused c e; installation = i }
+refused_leaves i c e = of_call (λ t. refusal_of t.answer ≡ Some e → t ≡ record { answer = refused c e; installation = i }) i c
     (λ f same. ap (λ e. record { answer = refused c e; installation = i }) (some_is f e (sym (told c f) ∙ same)))
     (never (λ t. t ≡ record { answer = refused c e; installation = i }) e (taken i c) (taken_untold i c))
 
-pub refused_save_leaves_buffer : RefusedSaveLeavesBuffer
-refused_save_leaves_buffer i p buffer e same = ap (λ done. done.answer) (refused_leave_all i (call.Ask p (request.Save buffer)) e same)
+-- what is so where a result is a refusal
+pub on_refusal : {X P : Type 0} → (r : Result X Refusal) (e : Refusal) → err_of r ≡ Some e → OnErr r P → P
+on_refusal (Ok x) e same holds = let none : None ≡ Some e = same in absurd cc
+on_refusal (Err f) e same holds = holds
+
+-- an answer that tells a refusal, of a call that does what is defined, answers no more than that
+pub refused_as : (i j : Installation) (c : Call (List ℕ)) (a : Answer (List ℕ)) → performed i c ≡ record { answer = a; installation = j } → (e : Refusal) → refusal_of a ≡ Some e → a ≡ refused c e
+refused_as i j c a performs e same =
+    let left = refused_leaves i c e (ap (λ d. refusal_of d.answer) performs ∙ same) in
+    sym (ap (λ d. d.answer) performs) ∙ ap (λ d. d.answer) left

@@ -14,6 +14,7 @@ mod Numbered
 mod Others
 mod Places
 mod Reported
+mod Restored
 mod Results
 mod Room
 mod Rows

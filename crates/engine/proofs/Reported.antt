@@ -1,5 +1,6 @@
 -- No report that a worker is held with tells that the store has no cell, after any history from the making.
 use Rattle.std.proofs.Common.{ℕ, ◌≡◌, ◌≤◌, List, length, Some, Ok, ap, sym, ◌∙◌, subst, arith}
+use Rattle.store.specs.Cells.{Cell}
 use Rattle.processor.specs.declared.outcome.Ending.{Ending}
 use Rattle.processor.specs.declared.outcome.Ending.TheVariants.{Spent, Interrupted}
 use Rattle.processor.specs.Run.{run, report_of}
@@ -98,7 +99,7 @@ module _ (i : Installation) (sound : Sound i) (all : AllOfCell i) where
   taken_leaves (call.Span p) = then_ok TakenOfCell (holder i p) _ (λ h held. all)
   taken_leaves (call.FixedAddress number cell) = then_ok TakenOfCell (fixed_address number cell.0) _ (λ a found. all)
 
-pub no_report_of_no_cell : NoReportOfNoCell
+pub no_report_of_no_cell : (row : List Cell) → NoReportOfNoCell row
 no_report_of_no_cell row calls p w report held =
     subst PlaceOfCell held (after_keeps AllOfCell taken_leaves (made row) calls (made_sound row) (λ q. subst PlaceOfCell (sym (free_at 8 q)) tt) p)
 
@@ -131,7 +132,7 @@ ask_tells i sound p budget =
     then_ok (λ t. Tells t.answer) (served h.limits.length h.own (request.Run budget)) _ (λ s gave.
     ok_is (λ s. Tells s.answer) (served h.limits.length h.own (request.Run budget)) s gave (run_tells h.limits.length h.own (omega (arith, its_words i sound p h held)) budget)))
 
-pub no_run_ends_in_no_cell : NoRunEndsInNoCell
+pub no_run_ends_in_no_cell : (row : List Cell) → NoRunEndsInNoCell row
 no_run_ends_in_no_cell row calls p budget =
     let i = after (made row) calls in
     of_call (λ t. Tells t.answer) i (call.Ask p (request.Run budget)) (λ e ran report told. absurd cc) (ask_tells i (sound_after row calls) p budget)

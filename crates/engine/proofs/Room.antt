@@ -7,6 +7,8 @@ use Rattle.engine.specs.declared.call.Call.{Call}
 use Rattle.engine.specs.declared.call.Call.TheVariants as call
 use Rattle.engine.specs.declared.place.Place.{Place}
 use Rattle.engine.specs.declared.place.Place.TheVariants.{Free, Ready, Held}
+use Rattle.store.specs.declared.address.CellAddress.{CellAddress}
+use Rattle.engine.specs.declared.call.Terms.{Terms}
 use Rattle.processor.specs.Limits.{Limits, share}
 use Rattle.engine.specs.declared.refusal.Refusal.{Refusal}
 use Rattle.engine.specs.declared.refusal.Refusal.TheVariants as refusal
@@ -60,9 +62,11 @@ module _ (c : Call (List ℕ)) (i j : Installation) where
   alike_after true false e r s same alike = absurd cc
   alike_after false true e r s same alike = absurd cc
 
-pub admits_by_spans : AdmitsBySpans
+pub admits_by_spans : (j : Installation) (p : ℕ) (lower : CellAddress) (terms : Terms) → AdmitsBySpans j p lower terms (performed j (call.Admit p lower terms)).answer
 unfolding performed
-admits_by_spans i j p lower terms same_row same_limits =
+admits_by_spans j p lower terms i same_rows same_places =
+    let same_row = sym same_rows in
+    let same_limits = sym same_places in
     let c : Call (List ℕ) = call.Admit p lower terms in
     let limits : Limits = record { lower = lower.0; length = terms.length } in
     alike_after c i j (nat_le p 7) (nat_le p 7) refusal.NoSuchPlace _ _ refl

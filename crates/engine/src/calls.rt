@@ -1,6 +1,9 @@
 // The calls of an installation.
-ghost use Rattle.std.specs.Prelude.{◌≡◌, OnErr};
-ghost use Rattle.engine.specs.Installed.{Performs};
+ghost use Rattle.std.specs.Prelude.{◌≡◌, OnErr, OnOk, Some};
+ghost use Rattle.engine.specs.Installation.{worker_at};
+ghost use Rattle.engine.specs.Installed.{Performs, means};
+ghost use Rattle.engine.specs.Laws.{AdmitsBySpans, Restores};
+ghost use Rattle.engine.specs.declared.place.Worker.{Worker};
 ghost use Rattle.engine.specs.declared.answer.Answer.TheVariants as answer;
 ghost use Rattle.engine.specs.declared.call.Call.TheVariants as call;
 ghost use Rattle.engine.specs.declared.call.Request.TheVariants as request;
@@ -16,6 +19,7 @@ impl<S: Store> Installation<S> {
     pub fn admit(&mut self, place: u32, lower: CellAddress, terms: Terms) -> Result<(), Refusal>
         ensures performed { Performs S.cells self.old (call.Admit place lower terms) (answer.Admitted result) self.new }
         ensures refused { OnErr result (self.new ≡ self.old) }
+        ensures by_spans { AdmitsBySpans (means S.cells self.old) place lower terms (answer.Admitted result) }
     {
         admitting::admit(&self.store, &mut self.places, place, lower, terms)
     }
@@ -55,6 +59,7 @@ impl<S: Store> Installation<S> {
     pub fn save(&self, place: u32, buffer: &mut [u8]) -> Result<(), Refusal>
         ensures performed { Performs S.cells self.now (call.Ask place (request.Save buffer.old)) (answer.Saved result buffer.new) self.now }
         ensures refused { OnErr result (buffer.new ≡ buffer.old) }
+        ensures restores { OnOk result ((w : Worker) → worker_at (means S.cells self.now) place ≡ Some w → Restores buffer.new w.registers) }
     {
         serving::save(&self.store, &self.places, place, buffer)
     }

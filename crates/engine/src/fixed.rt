@@ -1,6 +1,7 @@
 // The fixed addresses to which interrupts go.
 ghost use Rattle.std.specs.Prelude.{◌≡◌};
 ghost use Rattle.engine.specs.FixedAddress.{cause_numbered, fixed, fixed_address};
+ghost use Rattle.engine.specs.Laws.{CausesAreNumbered};
 
 use super::Refusal;
 use processor::Cause;
@@ -38,9 +39,10 @@ fn of_cause(cause: Cause, cell: u32) -> u32
 }
 
 // Where the cause with a number goes, for a cell of a store. It concerns no installation.
-#[tactic(auto, unfolding(crate::specs::FixedAddress::fixed_address))]
+#[tactic(auto, using(crate::proofs::Numbered::causes_are_numbered), unfolding(crate::specs::FixedAddress::fixed_address))]
 pub fn fixed_address(cause: u32, address: CellAddress) -> Result<CellAddress, Refusal>
-    ensures { result ≡ fixed_address cause address.0 }
+    ensures value { result ≡ fixed_address cause address.0 }
+    ensures numbered { CausesAreNumbered }
 {
     let cause = cause_numbered(cause)?;
     if address.0 >= MOST_CELLS {

@@ -2,6 +2,7 @@
 ghost use Rattle.std.specs.Prelude.{◌≡◌, replicate};
 ghost use Rattle.engine.specs.Installation.{made};
 ghost use Rattle.engine.specs.Installed.{means};
+ghost use Rattle.engine.specs.Laws.{NoCellIsShared, NoReportOfNoCell, NoRunEndsInNoCell, RegistersFit, RowKeepsLength, WordsBelowLength, WorkersLieInRow};
 
 use super::Place;
 use std::marker::Model;
@@ -26,10 +27,17 @@ impl<S: Store> Model for Installation<S> {
 }
 
 impl<S: Store> Installation<S> {
-    // A new one: all places are free.
+    // A new one: all places are free. What else is promised is of all that can come after: any calls, one after another.
     pub fn new(store: S) -> Self
         ensures made { means S.cells result ≡ made (S.cells store) }
         ensures store { result.store ≡ store }
+        ensures apart { NoCellIsShared (S.cells store) }
+        ensures inside { WorkersLieInRow (S.cells store) }
+        ensures length { RowKeepsLength (S.cells store) }
+        ensures widths { RegistersFit (S.cells store) }
+        ensures held { NoReportOfNoCell (S.cells store) }
+        ensures ran { NoRunEndsInNoCell (S.cells store) }
+        ensures addressed { WordsBelowLength (S.cells store) }
     {
         Installation {
             store,

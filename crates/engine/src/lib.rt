@@ -1,4 +1,5 @@
-// An installation: one store, and places for eight workers in it. So far it is defined, in specs/, with its laws.
+// An installation: one store, and places for eight workers in it, each of which knows its own words alone. Its definition is in specs/; the calls of the code are
+// proved to be those, over every store.
 #![tactic(auto)]
 
 mod admitting;
@@ -7,7 +8,6 @@ mod call;
 mod calls;
 mod fixed;
 mod installation;
-mod laws;
 mod performing;
 mod place;
 mod refusal;
@@ -18,11 +18,6 @@ pub use answer::{Answer, State, Told};
 pub use call::{Call, Request, Terms};
 pub use fixed::fixed_address;
 pub use installation::Installation;
-pub use laws::{
-    definition_admits_by_spans, definition_changes_only_its_cells, definition_finds_every_word,
-    definition_keeps_registers_in_their_widths, definition_keeps_workers_apart,
-    definition_leaves_all_on_refusal, definition_numbers_causes,
-};
 pub use place::{Place, Span, Worker};
 pub use refusal::Refusal;
 pub use replaying::{Replayed, replay_both};

@@ -1,7 +1,11 @@
 // Calls as values.
-ghost use Rattle.std.specs.Prelude.{◌≡◌, vec_items};
+ghost use Rattle.std.specs.Prelude.{◌≡◌, Some, vec_items};
 ghost use Rattle.engine.specs.Bytes.{answer_with, call_with, request_with};
-ghost use Rattle.engine.specs.Installed.{Performs};
+ghost use Rattle.engine.specs.Installed.{Performs, means};
+ghost use Rattle.engine.specs.Laws.{OnlyItsCells, RefusedLeavesAll};
+ghost use Rattle.engine.specs.Refusals.{refusal_of};
+ghost use Rattle.engine.specs.Sound.{Sound};
+ghost use Rattle.engine.specs.declared.refusal.Refusal.{Refusal};
 ghost use Rattle.engine.specs.declared.call.Call.TheVariants as call;
 
 use super::{Answer, Call, Installation, Request, fixed_address};
@@ -11,7 +15,20 @@ impl<S: Store> Installation<S> {
     // Does a call. The buffer of a save is handed on in its answer.
     pub fn perform(&mut self, call: Call<Vec<u8>>) -> Answer<Vec<u8>>
         ensures performed { Performs S.cells self.old (call_with vec_items call) (answer_with vec_items result) self.new }
+        ensures refused { RefusedLeavesAll (call_with vec_items call) (answer_with vec_items result) self.old self.new }
+        ensures other_cells { OnlyItsCells (means S.cells self.old) (call_with vec_items call) (means S.cells self.new) }
+        ensures sound { Sound (means S.cells self.new) }
     {
+        self.dispatch(call)
+    }
+
+    #[tactic(auto, using(crate::proofs::Lawful::on_refusal))]
+    fn dispatch(&mut self, call: Call<Vec<u8>>) -> Answer<Vec<u8>>
+        ensures performed { Performs S.cells self.old (call_with vec_items call) (answer_with vec_items result) self.new }
+        ensures refused { (e : Refusal) → refusal_of (answer_with vec_items result) ≡ Some e → self.new ≡ self.old }
+        ensures sound { Sound (means S.cells self.old) }
+    {
+        let _ = &self.places;
         match call {
             Call::Admit {
                 place,
@@ -27,8 +44,10 @@ impl<S: Store> Installation<S> {
         }
     }
 
+    #[tactic(auto, using(crate::proofs::Lawful::on_refusal))]
     fn ask(&mut self, place: u32, request: Request<Vec<u8>>) -> Answer<Vec<u8>>
         ensures performed { Performs S.cells self.old (call.Ask place (request_with vec_items request)) (answer_with vec_items result) self.new }
+        ensures refused { (e : Refusal) → refusal_of (answer_with vec_items result) ≡ Some e → self.new ≡ self.old }
     {
         match request {
             Request::Load { address, word } => Answer::Loaded(self.load(place, address, word)),

@@ -1,7 +1,9 @@
 // What is asked of a worker.
-ghost use Rattle.std.specs.Prelude.{◌≡◌, ◌≤◌, ◌^◌, ◌&&◌, IfOk, IsTrue, OnErr, Ok, if◌then◌else◌, nat_le, nat_lt};
-ghost use Rattle.engine.specs.Installation.{place_at};
+ghost use Rattle.std.specs.Prelude.{◌≡◌, ◌≤◌, ◌^◌, ◌&&◌, IfOk, IsTrue, OnErr, OnOk, Ok, Some, if◌then◌else◌, nat_le, nat_lt};
+ghost use Rattle.engine.specs.Installation.{place_at, worker_of};
 ghost use Rattle.engine.specs.Installed.{Performs};
+ghost use Rattle.engine.specs.declared.place.Worker.{Worker};
+ghost use Rattle.records.specs.Record.{record_read};
 ghost use Rattle.engine.specs.declared.answer.Answer.TheVariants as answer;
 ghost use Rattle.engine.specs.declared.call.Call.TheVariants as call;
 ghost use Rattle.engine.specs.declared.call.Request.TheVariants as request;
@@ -150,6 +152,7 @@ pub(crate) fn save<S: Store>(
 ) -> Result<(), Refusal>
     ensures performed { Performs S.cells (record { store = store.now; places = places.now }) (call.Ask place (request.Save buffer.old)) (answer.Saved result buffer.new) (record { store = store.now; places = places.now }) }
     ensures refused { OnErr result (buffer.new ≡ buffer.old) }
+    ensures reads_again { OnOk result ((w : Worker) → worker_of (place_at places.now place) ≡ Some w → record_read buffer.new ≡ Ok w.registers) }
 {
     match place_numbered(places, place)? {
         Place::Free => Err(Refusal::PlaceFree),

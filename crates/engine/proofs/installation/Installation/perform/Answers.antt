@@ -1,7 +1,17 @@
+use Rattle.std.proofs.Common.{ap, subst}
 use Rattle.engine.specs.Installed.{means}
-use Rattle.engine.proofs.Unconcerned.{fixed_performed}
+use Rattle.engine.specs.Laws.{OnlyItsCells}
+use Rattle.engine.proofs.Framed.{only_its_cells}
+use Rattle.engine.proofs.Keeping.{performs_sound}
+use Rattle.engine.proofs.Lawful.{refused_as}
 use Rattle.engine.proofs.installation.Installation.perform.Goals as goal
 
-pub returns-in-FixedAddress : goal.returns-in-FixedAddress
-returns-in-FixedAddress g c =
-    record { performed = rw (c.fixed_address.ensures, c.in-FixedAddress.is) (fixed_performed (means g.S.Store.cells c.args.self.now) _ _) }
+pub returns-clause-refused : goal.returns-clause-refused
+returns-clause-refused g c = λ e same. (refused_as _ _ _ _ c.dispatch.ensures.performed e same, c.dispatch.ensures.refused e same)
+
+pub returns-clause-other_cells : goal.returns-clause-other_cells
+returns-clause-other_cells g c =
+    subst (OnlyItsCells (means g.S.Store.cells c.args.self.now) _) (ap (λ d. d.installation) c.dispatch.ensures.performed) (only_its_cells _ c.dispatch.ensures.sound _)
+
+pub returns-clause-sound : goal.returns-clause-sound
+returns-clause-sound g c = performs_sound g.S.Store.cells _ _ _ _ c.dispatch.ensures.sound c.dispatch.ensures.performed
