@@ -1,4 +1,5 @@
 pub mod Admission
+pub mod Beneath
 pub mod Bytes
 pub mod Exchanges
 pub mod FixedAddress

@@ -1,5 +1,6 @@
 // The calls of an installation.
 ghost use Rattle.std.specs.Prelude.{◌≡◌, OnErr, OnOk, Some};
+ghost use Rattle.engine.specs.Beneath.{StoreDoes};
 ghost use Rattle.engine.specs.Installation.{worker_at};
 ghost use Rattle.engine.specs.Installed.{Performs, means};
 ghost use Rattle.engine.specs.Laws.{AdmitsBySpans, Restores};
@@ -19,6 +20,7 @@ impl<S: Store> Installation<S> {
     pub fn admit(&mut self, place: u32, lower: CellAddress, terms: Terms) -> Result<(), Refusal>
         ensures performed { Performs S.cells self.old (call.Admit place lower terms) (answer.Admitted result) self.new }
         ensures refused { OnErr result (self.new ≡ self.old) }
+        ensures store { StoreDoes S.puts_whole S.puts_half (means S.cells self.old) (call.Admit place lower terms) self.old.store self.new.store }
         ensures by_spans { AdmitsBySpans (means S.cells self.old) place lower terms (answer.Admitted result) }
     {
         admitting::admit(&self.store, &mut self.places, place, lower, terms)
@@ -28,6 +30,7 @@ impl<S: Store> Installation<S> {
     pub fn load(&mut self, place: u32, address: RelativeAddress, word: u32) -> Result<(), Refusal>
         ensures performed { Performs S.cells self.old (call.Ask place (request.Load address word)) (answer.Loaded result) self.new }
         ensures refused { OnErr result (self.new ≡ self.old) }
+        ensures store { StoreDoes S.puts_whole S.puts_half (means S.cells self.old) (call.Ask place (request.Load address word)) self.old.store self.new.store }
     {
         serving::load(&mut self.store, &self.places, place, address, word)
     }
@@ -43,6 +46,7 @@ impl<S: Store> Installation<S> {
     pub fn run(&mut self, place: u32, budget: u32) -> Result<Ran, Refusal>
         ensures performed { Performs S.cells self.old (call.Ask place (request.Run budget)) (answer.Ran result) self.new }
         ensures refused { OnErr result (self.new ≡ self.old) }
+        ensures store { StoreDoes S.puts_whole S.puts_half (means S.cells self.old) (call.Ask place (request.Run budget)) self.old.store self.new.store }
     {
         serving::run_worker(&mut self.store, &mut self.places, place, budget)
     }
@@ -51,6 +55,7 @@ impl<S: Store> Installation<S> {
     pub fn answer(&mut self, place: u32, a: u32, q: u32, p: u32) -> Result<(), Refusal>
         ensures performed { Performs S.cells self.old (call.Ask place (request.Answer a q p)) (answer.Answered result) self.new }
         ensures refused { OnErr result (self.new ≡ self.old) }
+        ensures store { StoreDoes S.puts_whole S.puts_half (means S.cells self.old) (call.Ask place (request.Answer a q p)) self.old.store self.new.store }
     {
         serving::answer(&self.store, &mut self.places, place, a, q, p)
     }
@@ -68,6 +73,7 @@ impl<S: Store> Installation<S> {
     pub fn restore(&mut self, place: u32, bytes: &[u8]) -> Result<(), Refusal>
         ensures performed { Performs S.cells self.old (call.Ask place (request.Restore bytes.now)) (answer.Restored result) self.new }
         ensures refused { OnErr result (self.new ≡ self.old) }
+        ensures store { StoreDoes S.puts_whole S.puts_half (means S.cells self.old) (call.Ask place (request.Restore bytes.now)) self.old.store self.new.store }
     {
         serving::restore(&self.store, &mut self.places, place, bytes)
     }
@@ -83,6 +89,7 @@ impl<S: Store> Installation<S> {
     pub fn retire(&mut self, place: u32) -> Result<(), Refusal>
         ensures performed { Performs S.cells self.old (call.Retire place) (answer.Retired result) self.new }
         ensures refused { OnErr result (self.new ≡ self.old) }
+        ensures store { StoreDoes S.puts_whole S.puts_half (means S.cells self.old) (call.Retire place) self.old.store self.new.store }
     {
         admitting::retire(&self.store, &mut self.places, place)
     }

@@ -1,5 +1,6 @@
 // What is asked of a worker.
 ghost use Rattle.std.specs.Prelude.{◌≡◌, ◌≤◌, ◌^◌, ◌&&◌, IfOk, IsTrue, OnErr, OnOk, Ok, Some, if◌then◌else◌, nat_le, nat_lt};
+ghost use Rattle.engine.specs.Beneath.{StoreDoes};
 ghost use Rattle.engine.specs.Installation.{place_at, worker_of};
 ghost use Rattle.engine.specs.Installed.{Performs};
 ghost use Rattle.engine.specs.declared.place.Worker.{Worker};
@@ -39,6 +40,7 @@ pub(crate) fn load<S: Store>(
 ) -> Result<(), Refusal>
     ensures performed { Performs S.cells (record { store = store.old; places = places.now }) (call.Ask place (request.Load address word)) (answer.Loaded result) (record { store = store.new; places = places.now }) }
     ensures refused { OnErr result (store.new ≡ store.old) }
+    ensures store { StoreDoes S.puts_whole S.puts_half (record { row = S.cells store.old; places = places.now }) (call.Ask place (request.Load address word)) store.old store.new }
 {
     match place_numbered(places, place)? {
         Place::Free => Err(Refusal::PlaceFree),
@@ -81,6 +83,7 @@ pub(crate) fn run_worker<S: Store>(
 ) -> Result<Ran, Refusal>
     ensures performed { Performs S.cells (record { store = store.old; places = places.old }) (call.Ask place (request.Run budget)) (answer.Ran result) (record { store = store.new; places = places.new }) }
     ensures refused { OnErr result ((store.new ≡ store.old) × (places.new ≡ places.old)) }
+    ensures store { StoreDoes S.puts_whole S.puts_half (record { row = S.cells store.old; places = places.old }) (call.Ask place (request.Run budget)) store.old store.new }
 {
     match (place_numbered(places, place)?, budget) {
         (Place::Free, _) => Err(Refusal::PlaceFree),

@@ -11,4 +11,4 @@ pub returns-clause-isolation : goal.returns-clause-isolation
 returns-clause-isolation g c = λ s t. isolated (g.S.Store.cells s) (g.T.Store.cells t)
 
 pub returns-clause-isolated : goal.returns-clause-isolated
-returns-clause-isolated g c = isolated_as _ _ _ _ _ _ c.in_ok-first.ensures c.in_ok-second.ensures
+returns-clause-isolated g c = isolated_as _ _ _ _ _ _ c.in_ok-first.ensures.history c.in_ok-second.ensures.history

@@ -4,8 +4,8 @@ use Rattle.engine.specs.Exchanges.{after, answers_in, exchanges}
 use Rattle.engine.proofs.Split.{told_history}
 use Rattle.engine.proofs.replaying.replay_new.Goals as goal
 
-pub returns : goal.returns
-returns g c =
+pub returns-clause-history : goal.returns-clause-history
+returns-clause-history g c =
     let calls = asked c.args.calls in
     let made = c.new-installation.ensures.made in
     told_history (g.S.Store.cells c.args.store) calls _ _
