@@ -7,7 +7,7 @@ use Rattle.engine.specs.declared.call.Call.{Call}
 use Rattle.engine.specs.declared.call.Call.TheVariants as call
 use Rattle.engine.specs.declared.call.Request.{Request}
 use Rattle.engine.specs.declared.place.Worker.{Worker}
-use Rattle.engine.specs.Exchanges.{is_for}
+use Rattle.engine.specs.Isolation.{is_for}
 use Rattle.processor.specs.Limits.{words_in}
 use Rattle.engine.specs.Installation.{Installation, Done, holder, worker_of, worker_at}
 use Rattle.engine.specs.Laws.{Has, OnlyItsCells}

@@ -9,10 +9,10 @@ use Rattle.engine.specs.declared.call.Call.{Call}
 use Rattle.engine.specs.declared.call.Call.TheVariants as call
 use Rattle.engine.specs.declared.call.Terms.{Terms}
 use Rattle.engine.specs.Admission.{admit}
-use Rattle.engine.specs.Exchanges.{after, answers_in, calls_in, ends_by_retire, exchanges, exchanges_with}
+use Rattle.engine.specs.Exchanges.{after, answers_in, calls_in, exchanges}
+use Rattle.engine.specs.Isolation.{nothing_after_retire, exchanges_with, TakenAdmit, History, Isolates, Admits, answers_to, calls_for, history, words_found, words_of, would_tell}
 use Rattle.processor.specs.Limits.{words_in}
 use Rattle.engine.specs.Installation.{Installation, Holder, holder, if_occupied, made, Done}
-use Rattle.engine.specs.Isolation.{Admission, History, Isolates, Admits, answers_to, calls_for, history, words_found, words_of, would_tell}
 use Rattle.engine.specs.Own.{Own}
 use Rattle.engine.specs.Performing.{performed}
 use Rattle.engine.proofs.Split.{Splits, split}
@@ -45,7 +45,7 @@ module _ (i : Installation) (sound : Sound i) (p : ℕ) (lower : CellAddress) (t
   found : Found (performed i (call.Admit p lower terms))
   found = of_call Found i (call.Admit p lower terms) (λ e taken. absurd cc) admit_found
 
-module _ (p : ℕ) (terms : Terms) (row : List Cell) (calls : List (Call (List ℕ))) (a : Admission) (admits : Admits p terms (history row calls) a) where
+module _ (p : ℕ) (terms : Terms) (row : List Cell) (calls : List (Call (List ℕ))) (a : TakenAdmit) (admits : Admits p terms (history row calls) a) where
   abbrev before_admit : Installation
   before_admit = after (made row) (calls_in a.before)
 
@@ -77,7 +77,7 @@ module _ (p : ℕ) (terms : Terms) (row : List Cell) (calls : List (Call (List �
   seen : Seen
   seen = record { told = would_tell p (after (made row) calls); words = words_of p terms a (after (made row) calls).row }
 
-  is_seen : ends_by_retire p (calls_in a.later) ≡ true → seen ≡ seen_after terms.length own (calls_for p terms a)
+  is_seen : nothing_after_retire p (calls_in a.later) ≡ true → seen ≡ seen_after terms.length own (calls_for p terms a)
   unfolding seen
   is_seen ends =
       ap (λ i. record { told = would_tell p i; words = words_of p terms a i.row }) splits.left

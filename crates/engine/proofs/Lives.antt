@@ -7,7 +7,8 @@ use Rattle.engine.specs.declared.call.Request.{Request}
 use Rattle.engine.specs.declared.call.Request.TheVariants as request
 use Rattle.processor.specs.Limits.{Limits, words_in}
 use Rattle.engine.specs.declared.refusal.Refusal.TheVariants as refusal
-use Rattle.engine.specs.Exchanges.{Exchange, calls_in, answers_in, exchanges, after, is_for, is_retire, exchanges_with, is_empty, ends_by_retire}
+use Rattle.engine.specs.Exchanges.{Exchange, calls_in, answers_in, exchanges, after}
+use Rattle.engine.specs.Isolation.{is_for, is_retire, exchanges_with, is_empty, nothing_after_retire}
 use Rattle.engine.specs.Installation.{Installation, Holder, holder}
 use Rattle.engine.specs.Performing.{performed}
 use Rattle.engine.proofs.Alone.{alone, asked, Alike, asked_alone, own_words, freed, freed_told, retired_alone, Seen, seen_after}
@@ -108,21 +109,21 @@ module _ (i : Installation) (p : ℕ) (h : Holder) (sound : Sound i) (held : hol
         ap (λ j. seen_in j p h.limits) (after_none (performed i (call.Retire q)).installation cs last ∙ subst (λ q. (performed i (call.Retire q)).installation ≡ freed i p h sound held) (sym same) (ap (λ t. t.installation) (retired_alone i p h sound held)))
         ∙ seen_freed
 
-    seen_on : (c : Call (List ℕ)) → (if is_retire p c then is_empty cs else ends_by_retire p cs) ≡ true → (ends_by_retire p cs ≡ true → RestSeen) → SeenAlone (performed i c).installation (exchanges_with p (exchanges i (c ∷ cs)))
+    seen_on : (c : Call (List ℕ)) → (if is_retire p c then is_empty cs else nothing_after_retire p cs) ≡ true → (nothing_after_retire p cs ≡ true → RestSeen) → SeenAlone (performed i c).installation (exchanges_with p (exchanges i (c ∷ cs)))
     unfolding exchanges exchanges_with
     seen_on (call.Admit q lower terms) ends rest = other_seen (call.Admit q lower terms) refl (rest ends)
     seen_on (call.Ask q what) ends rest = if_or (SeenAlone (performed i (call.Ask q what)).installation) (q == p) _ _
         (λ same. own_seen q what (grind (arith, same)) (rest ends))
         (λ other. other_seen (call.Ask q what) other (rest ends))
     seen_on (call.Retire q) ends rest = if_or (SeenAlone (performed i (call.Retire q)).installation) (q == p) _ _
-        (λ same. retire_seen q (grind (arith, same)) (subst (λ b. (if b then is_empty cs else ends_by_retire p cs) ≡ true) same ends))
+        (λ same. retire_seen q (grind (arith, same)) (subst (λ b. (if b then is_empty cs else nothing_after_retire p cs) ≡ true) same ends))
         (λ other. if_or (SeenAlone (performed i (call.Retire q)).installation) (q == p) _ _
         (λ same. absurd (grind (arith, same, other)))
-        (λ _. other_seen (call.Retire q) other (rest (subst (λ b. (if b then is_empty cs else ends_by_retire p cs) ≡ true) other ends))))
+        (λ _. other_seen (call.Retire q) other (rest (subst (λ b. (if b then is_empty cs else nothing_after_retire p cs) ≡ true) other ends))))
     seen_on (call.Span q) ends rest = other_seen (call.Span q) refl (rest ends)
     seen_on (call.FixedAddress number cell) ends rest = other_seen (call.FixedAddress number cell) refl (rest ends)
 
-pub seen_alone : (p : ℕ) (cs : List (Call (List ℕ))) → ends_by_retire p cs ≡ true → (i : Installation) (h : Holder) → Sound i → holder i p ≡ Ok h → seen_in (after i cs) p h.limits ≡ seen_after h.limits.length h.own (calls_in (exchanges_with p (exchanges i cs)))
-unfolding exchanges exchanges_with after ends_by_retire
+pub seen_alone : (p : ℕ) (cs : List (Call (List ℕ))) → nothing_after_retire p cs ≡ true → (i : Installation) (h : Holder) → Sound i → holder i p ≡ Ok h → seen_in (after i cs) p h.limits ≡ seen_after h.limits.length h.own (calls_in (exchanges_with p (exchanges i cs)))
+unfolding exchanges exchanges_with after nothing_after_retire
 seen_alone p [] ends i h sound held = seen_now i p h sound held
 seen_alone p (c ∷ cs) ends i h sound held = seen_on i p h sound held cs c ends (seen_alone p cs)

@@ -14,7 +14,7 @@ use Rattle.engine.specs.declared.refusal.Refusal.{Refusal}
 use Rattle.engine.specs.declared.refusal.Refusal.TheVariants as refusal
 use Rattle.engine.specs.Admission.{admit, retire, is_free}
 use Rattle.engine.specs.FixedAddress.{fixed_address}
-use Rattle.engine.specs.Exchanges.{is_for}
+use Rattle.engine.specs.Isolation.{is_for}
 use Rattle.engine.specs.Installation.{Installation, Holder, holder, if_occupied, place_at, Done}
 use Rattle.engine.specs.Performing.{ask, taken, performed}
 use Rattle.engine.specs.Serving.{served}

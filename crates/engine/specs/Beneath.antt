@@ -1,5 +1,6 @@
 -- What a call does to the store itself, as far as the store tells that of its puts: a load that is taken puts its word, a run does what its steps put, and no other call touches the store.
 use Rattle.std.specs.Prelude.{◌≡◌, ℕ, ◌+◌, List, [], ◌∷◌, MatchResult, Result, Ok, Err}
+use Rattle.store.specs.Cells.{Cell}
 use Rattle.store.specs.declared.half.Half.{Half}
 use Rattle.processor.specs.Beneath.{PutsDo, run_puts}
 use Rattle.processor.specs.declared.address.RelativeAddress.{RelativeAddress}
@@ -37,7 +38,7 @@ module _ {S : Type 0} (whole : S → ℕ → ℕ → S → Type 0) (half : S →
   StoreDoes i (call.Span p) s t = t ≡ s
   StoreDoes i (call.FixedAddress number cell) s t = t ≡ s
 
-  -- and calls one after another
-  unfoldable pub StoreDoesAll : Installation → List (Call (List ℕ)) → S → S → Type 0
-  StoreDoesAll i [] s t = t ≡ s
-  StoreDoesAll i (c ∷ cs) s t = (m : S) × StoreDoes i c s m × StoreDoesAll (performed i c).installation cs m t
+-- and calls one after another; after each of them the store means the row that is defined
+unfoldable pub StoreDoesAll : {S : Type 0} → (S → List Cell) → (S → ℕ → ℕ → S → Type 0) → (S → ℕ → Half → ℕ → S → Type 0) → Installation → List (Call (List ℕ)) → S → S → Type 0
+StoreDoesAll cells whole half i [] s t = t ≡ s
+StoreDoesAll {S} cells whole half i (c ∷ cs) s t = (m : S) × StoreDoes whole half i c s m × (cells m ≡ (performed i c).installation.row) × StoreDoesAll cells whole half (performed i c).installation cs m t

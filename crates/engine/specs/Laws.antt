@@ -23,7 +23,8 @@ use Rattle.engine.specs.declared.refusal.Refusal.TheVariants.{AddressPastLength}
 use Rattle.processor.specs.declared.outcome.Ran.{Ran}
 use Rattle.processor.specs.declared.report.Cause.{Cause}
 use Rattle.processor.specs.Run.{report_of}
-use Rattle.engine.specs.Exchanges.{after, is_for}
+use Rattle.engine.specs.Exchanges.{after}
+use Rattle.engine.specs.Isolation.{is_for}
 use Rattle.engine.specs.FixedAddress.{cause_numbered}
 use Rattle.engine.specs.Refusals.{refusal_of}
 use Rattle.engine.specs.Installation.{Installation, made, place_at, worker_at, limits_in, worker_of}

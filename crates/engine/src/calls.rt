@@ -3,7 +3,7 @@ ghost use Rattle.std.specs.Prelude.{◌≡◌, OnErr, OnOk, Some};
 ghost use Rattle.engine.specs.Beneath.{StoreDoes};
 ghost use Rattle.engine.specs.Installation.{worker_at};
 ghost use Rattle.engine.specs.Installed.{Performs, means};
-ghost use Rattle.engine.specs.Laws.{AdmitsBySpans, Restores};
+ghost use Rattle.engine.specs.Laws.{AdmitsBySpans, OnlyItsCells, Restores};
 ghost use Rattle.engine.specs.declared.place.Worker.{Worker};
 ghost use Rattle.engine.specs.declared.answer.Answer.TheVariants as answer;
 ghost use Rattle.engine.specs.declared.call.Call.TheVariants as call;
@@ -31,6 +31,7 @@ impl<S: Store> Installation<S> {
         ensures performed { Performs S.cells self.old (call.Ask place (request.Load address word)) (answer.Loaded result) self.new }
         ensures refused { OnErr result (self.new ≡ self.old) }
         ensures store { StoreDoes S.puts_whole S.puts_half (means S.cells self.old) (call.Ask place (request.Load address word)) self.old.store self.new.store }
+        ensures other_cells { OnlyItsCells (means S.cells self.old) (call.Ask place (request.Load address word)) (means S.cells self.new) }
     {
         serving::load(&mut self.store, &self.places, place, address, word)
     }
@@ -47,6 +48,7 @@ impl<S: Store> Installation<S> {
         ensures performed { Performs S.cells self.old (call.Ask place (request.Run budget)) (answer.Ran result) self.new }
         ensures refused { OnErr result (self.new ≡ self.old) }
         ensures store { StoreDoes S.puts_whole S.puts_half (means S.cells self.old) (call.Ask place (request.Run budget)) self.old.store self.new.store }
+        ensures other_cells { OnlyItsCells (means S.cells self.old) (call.Ask place (request.Run budget)) (means S.cells self.new) }
     {
         serving::run_worker(&mut self.store, &mut self.places, place, budget)
     }

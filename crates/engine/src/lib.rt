@@ -20,4 +20,4 @@ pub use fixed::fixed_address;
 pub use installation::Installation;
 pub use place::{Place, Span, Worker};
 pub use refusal::Refusal;
-pub use replaying::{Replayed, replay_both};
+pub use replaying::{OutOfMemory, Replayed, replay_both};

@@ -1,5 +1,6 @@
 // Why a call was not taken.
 ghost use Rattle.std.specs.Prelude.{◌≡◌};
+ghost use Rattle.engine.specs.Refusals.{number_of};
 
 use processor::ReferenceFault;
 use records::{BufferTooShort, RecordFault};
@@ -46,6 +47,35 @@ pub enum Refusal {
     FieldTooWide(u32),
     // This half of the cell is spoiled.
     Spoiled(Half),
+}
+
+impl Refusal {
+    // Its number, 1 to 19.
+    pub fn number(self) -> u32
+        ensures { result ≡ number_of self }
+    {
+        match self {
+            Refusal::NoSuchPlace => 1,
+            Refusal::PlaceOccupied => 2,
+            Refusal::PlaceFree => 3,
+            Refusal::BadLength => 4,
+            Refusal::PastStore => 5,
+            Refusal::CellShared => 6,
+            Refusal::EntryPastLength => 7,
+            Refusal::AddressPastLength => 8,
+            Refusal::NumberTooWide => 9,
+            Refusal::BudgetTooLarge => 10,
+            Refusal::WorkerHeld => 11,
+            Refusal::WorkerNotHeld => 12,
+            Refusal::ShortBuffer => 13,
+            Refusal::NoFixedAddress => 14,
+            Refusal::ShortRecord => 15,
+            Refusal::RecordLength => 16,
+            Refusal::RecordVersion => 17,
+            Refusal::FieldTooWide(_) => 18,
+            Refusal::Spoiled(_) => 19,
+        }
+    }
 }
 
 // A word that the store does not have is none of the worker's.

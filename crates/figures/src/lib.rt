@@ -15,7 +15,8 @@ ghost use Rattle.engine.specs.declared.answer.Answer.TheVariants.{Admitted, Look
 ghost use Rattle.engine.specs.declared.answer.State.TheVariants.{Held, Ready};
 ghost use Rattle.engine.specs.declared.call.Call.TheVariants.{Ask, Retire};
 ghost use Rattle.engine.specs.declared.call.Request.TheVariants.{Restore, Run, Save, Tell};
-ghost use Rattle.engine.specs.Exchanges.{answers_in, calls_in, ends_by_retire, exchanges, exchanges_with};
+ghost use Rattle.engine.specs.Exchanges.{answers_in, calls_in, exchanges};
+ghost use Rattle.engine.specs.Isolation.{nothing_after_retire, exchanges_with};
 ghost use Rattle.engine.specs.Laws.{Has};
 ghost use Rattle.records.specs.Registers.{starting_at};
 ghost use Rattle.figures.specs.Histories.{fixed_addresses, life, mixed, refusals};
@@ -57,9 +58,9 @@ pub fn worked_figures()
     ensures refusals { exchanges (made (cells 16 [])) (calls_in refusals) ≡ refusals }
     ensures fixed_addresses { exchanges (made []) (calls_in fixed_addresses) ≡ fixed_addresses }
     ensures calls_for { calls_in (exchanges_with 0 mixed) ≡ Ask 0 Tell ∷ Retire 0 ∷ [] }
-    ensures ends { ends_by_retire 0 (Ask 0 Tell ∷ Retire 1 ∷ []) ≡ true }
-    ensures ends_at_retire { ends_by_retire 0 (Ask 0 Tell ∷ Retire 0 ∷ []) ≡ true }
-    ensures goes_on_after_retire { ends_by_retire 0 (Retire 0 ∷ Ask 1 Tell ∷ []) ≡ false }
+    ensures ends { nothing_after_retire 0 (Ask 0 Tell ∷ Retire 1 ∷ []) ≡ true }
+    ensures ends_at_retire { nothing_after_retire 0 (Ask 0 Tell ∷ Retire 0 ∷ []) ≡ true }
+    ensures goes_on_after_retire { nothing_after_retire 0 (Retire 0 ∷ Ask 1 Tell ∷ []) ≡ false }
     ensures first_cell { Has (record { limits = record { lower = 2; length = 3 }; registers = starting_at 0 }) 2 }
     ensures last_cell { Has (record { limits = record { lower = 2; length = 3 }; registers = starting_at 0 }) 4 }
     ensures executive_return_told { told_by (ExecutiveReturn (relative 10)) ≡ record { cause = 4; address = 10; kind = None; fault = None } }

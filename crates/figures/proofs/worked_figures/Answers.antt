@@ -9,7 +9,8 @@ use Rattle.processor.specs.Repertoire.{operation_of}
 use Rattle.processor.specs.Run.{run}
 use Rattle.processor.specs.Skips.{skip_met, product_skip_met}
 use Rattle.processor.specs.Step.{step, tried, instruction_effect}
-use Rattle.engine.specs.Exchanges.{ends_by_retire, exchanges, exchanges_with}
+use Rattle.engine.specs.Exchanges.{exchanges}
+use Rattle.engine.specs.Isolation.{nothing_after_retire, exchanges_with}
 use Rattle.engine.specs.FixedAddress.{fixed_address}
 use Rattle.engine.specs.Performing.{performed}
 use Rattle.engine.specs.Serving.{served}
@@ -131,13 +132,13 @@ unfolding exchanges_with
 returns-clause-calls_for c = refl
 
 pub returns-clause-ends : goal.returns-clause-ends
-unfolding ends_by_retire
+unfolding nothing_after_retire
 returns-clause-ends c = refl
 
 pub returns-clause-ends_at_retire : goal.returns-clause-ends_at_retire
-unfolding ends_by_retire
+unfolding nothing_after_retire
 returns-clause-ends_at_retire c = refl
 
 pub returns-clause-goes_on_after_retire : goal.returns-clause-goes_on_after_retire
-unfolding ends_by_retire
+unfolding nothing_after_retire
 returns-clause-goes_on_after_retire c = refl

@@ -1,8 +1,4 @@
-use Rattle.std.proofs.Common.{ap, subst}
-use Rattle.engine.specs.Installed.{means}
-use Rattle.engine.specs.Laws.{OnlyItsCells}
-use Rattle.engine.proofs.Framed.{only_its_cells}
-use Rattle.engine.proofs.Keeping.{performs_sound}
+use Rattle.engine.proofs.Keeping.{performs_only_its_cells, performs_sound}
 use Rattle.engine.proofs.Lawful.{refused_as}
 use Rattle.engine.proofs.installation.Installation.perform.Goals as goal
 
@@ -11,7 +7,7 @@ returns-clause-refused g c = λ e same. (refused_as _ _ _ _ c.dispatch.ensures.p
 
 pub returns-clause-other_cells : goal.returns-clause-other_cells
 returns-clause-other_cells g c =
-    subst (OnlyItsCells (means g.S.Store.cells c.args.self.now) _) (ap (λ d. d.installation) c.dispatch.ensures.performed) (only_its_cells _ c.dispatch.ensures.sound _)
+    performs_only_its_cells g.S.Store.cells _ _ _ _ c.dispatch.ensures.sound c.dispatch.ensures.performed
 
 pub returns-clause-sound : goal.returns-clause-sound
 returns-clause-sound g c = performs_sound g.S.Store.cells _ _ _ _ c.dispatch.ensures.sound c.dispatch.ensures.performed

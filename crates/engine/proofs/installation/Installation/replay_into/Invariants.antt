@@ -13,6 +13,6 @@ invariant-loop-call g l =
     record {
       told : given l.answers ++ answers_in (exchanges (means cells l.self) rest) ≡ given l.fn.answers ++ answers_in (exchanges (means cells l.fn.self) (asked l.fn.calls));
       leaves : after (means cells l.self) rest ≡ after (means cells l.fn.self) (asked l.fn.calls);
-      does : (t : _) → StoreDoesAll g.S.Store.puts_whole g.S.Store.puts_half (means cells l.self) rest l.self.store t → StoreDoesAll g.S.Store.puts_whole g.S.Store.puts_half (means cells l.fn.self) (asked l.fn.calls) l.fn.self.store t;
+      does : (t : _) → StoreDoesAll cells g.S.Store.puts_whole g.S.Store.puts_half (means cells l.self) rest l.self.store t → StoreDoesAll cells g.S.Store.puts_whole g.S.Store.puts_half (means cells l.fn.self) (asked l.fn.calls) l.fn.self.store t;
       room : vec_len l.answers + length l.call-iterator.rest.items ≤ vec_capacity l.answers;
     }
