@@ -19,5 +19,6 @@ pub mod Run
 pub mod Shifts
 pub mod Skips
 pub mod Step
+pub mod Text
 pub mod Then
 pub mod Transfers

@@ -21,6 +21,7 @@ mod running;
 mod shifts;
 mod skips;
 mod stepping;
+mod text;
 mod transfers;
 mod writing;
 

@@ -5,6 +5,7 @@ mod fault;
 mod record;
 mod registers;
 mod setting;
+mod text;
 
 pub use fault::{BufferTooShort, RecordFault};
 pub use registers::Registers;
