@@ -1,7 +1,9 @@
 // What was made by a layout: a store over one memory or two, which can be damaged number by number.
 ghost use Rattle.std.specs.Prelude.{◌≡◌, is_ok, IfOk, if◌then◌else◌};
 ghost use Rattle.store.specs.Operations.{replied, left};
-ghost use Rattle.memories.specs.Any.{row_of};
+ghost use Rattle.memories.specs.Any.{changed, row_of};
+ghost use Rattle.memories.specs.Bank.{memory_with_word, memory_with_half};
+ghost use Rattle.memories.specs.Laws.{memories_bounded, memories_ranged};
 ghost use Rattle.memories.specs.Setup.{new_memories, left_in, can_damage, damaged};
 
 use crate::any::AnyStore;
@@ -10,7 +12,8 @@ use crate::layout::Layout;
 use pairs::{Pair, Side};
 use std::alloc::{AllocError, Global};
 use std::marker::Model;
-use store::{Operation, Reply, perform};
+use store::{CellAddress, Fault, Half, Operation, Reply, Store, perform};
+use words::Word;
 
 #[derive(Drop)]
 pub struct Setup {
@@ -65,5 +68,34 @@ impl Setup {
             (AnyStore::Pair(pair), Side::First) => pair.first.replace_number(index, value),
             (AnyStore::Pair(pair), Side::Second) => pair.second.replace_number(index, value),
         }
+    }
+}
+
+// It is itself a store, which means the row of its memories.
+impl Store for Setup {
+    ghost cells = { row_of };
+
+    ghost puts_whole = { λ before a w after. after ≡ changed before a (memory_with_word w) };
+
+    ghost puts_half = { λ before a h v after. after ≡ changed before a (memory_with_half h v) };
+
+    ghost bounded = { memories_bounded };
+
+    ghost ranged = { memories_ranged };
+
+    fn count(&self) -> u32 {
+        self.store.count()
+    }
+
+    fn fetch(&self, address: CellAddress) -> Result<Word, Fault> {
+        self.store.fetch(address)
+    }
+
+    fn put_whole(&mut self, address: CellAddress, word: u32) -> Result<(), Fault> {
+        self.store.put_whole(address, word)
+    }
+
+    fn put_half(&mut self, address: CellAddress, half: Half, value: u32) -> Result<(), Fault> {
+        self.store.put_half(address, half, value)
     }
 }
