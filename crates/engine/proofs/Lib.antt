@@ -1,5 +1,4 @@
 mod Addressed
-mod Passing
 mod Again
 mod Alone
 mod Asked
@@ -12,6 +11,7 @@ mod Lawful
 mod Lives
 mod Numbered
 mod Others
+mod Passing
 mod Places
 mod Reported
 mod Restored
@@ -23,3 +23,4 @@ mod Serves
 mod Sound
 mod Split
 mod Unconcerned
+mod Written

@@ -4,12 +4,14 @@ pub mod Bytes
 pub mod Exchanges
 pub mod FixedAddress
 pub mod Installation
+pub mod Installed
 pub mod Isolation
 pub mod Laws
 pub mod Own
 pub mod Performing
-pub mod Installed
-pub mod Sound
 pub mod Refusals
 pub mod Replayed
+pub mod Seen
 pub mod Serving
+pub mod Sound
+pub mod Text

@@ -13,6 +13,7 @@ mod place;
 mod refusal;
 mod replaying;
 mod serving;
+mod text;
 
 pub use answer::{Answer, State, Told};
 pub use call::{Call, Request, Terms};
