@@ -11,7 +11,6 @@ pub mod Own
 pub mod Performing
 pub mod Refusals
 pub mod Replayed
-pub mod Seen
 pub mod Serving
 pub mod Sound
 pub mod Text

@@ -19,7 +19,7 @@ pub struct Told {
 }
 
 // The answer to each call. That to a save has the whole buffer as it is after, taken or refused.
-#[derive(Clone, Copy, Debug, PartialEq, Eq)]
+#[derive(Clone, Debug, PartialEq, Eq, Drop)]
 pub enum Answer<B> {
     Admitted(Result<(), Refusal>),
     Loaded(Result<(), Refusal>),

@@ -10,7 +10,7 @@ pub struct Terms {
 }
 
 // What is asked of a worker.
-#[derive(Clone, Copy, Debug, PartialEq, Eq)]
+#[derive(Clone, Debug, PartialEq, Eq, Drop)]
 pub enum Request<B> {
     Load { address: RelativeAddress, word: u32 },
     Look { address: RelativeAddress },
@@ -22,7 +22,7 @@ pub enum Request<B> {
 }
 
 // A call with its arguments. `Ask` and `Retire` are the calls for the worker at a place.
-#[derive(Clone, Copy, Debug, PartialEq, Eq)]
+#[derive(Clone, Debug, PartialEq, Eq, Drop)]
 pub enum Call<B> {
     Admit {
         place: u32,

@@ -1,7 +1,7 @@
 // Refusals and what calls answer as text.
-ghost use Rattle.std.specs.Prelude.{◌≡◌, Some};
+ghost use Rattle.std.specs.Prelude.{◌≡◌, Some, vec_items};
+ghost use Rattle.engine.specs.Bytes.{answer_with};
 ghost use Rattle.engine.specs.Refusals.{number_of};
-ghost use Rattle.engine.specs.Seen.{answer_of};
 ghost use Rattle.engine.specs.Text.{answer_text, bytes_text, refusal_text, span_text, told_text};
 
 use super::{Answer, Refusal, Span, State, Told};
@@ -94,7 +94,7 @@ impl fmt::Display for Hexadecimal<'_> {
 
 // A refused save's buffer is not written.
 impl fmt::Display for Answer<Vec<u8>> {
-    ghost output = { λ answer. Some (answer_text (answer_of answer)) };
+    ghost output = { λ answer. Some (answer_text (answer_with vec_items answer)) };
 
     #[tactic(auto, using(crate::proofs::Written::padded_address))]
     fn fmt<W: fmt::Write>(&self, f: &mut fmt::Formatter<W>) -> fmt::Result {

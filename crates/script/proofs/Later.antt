@@ -4,7 +4,7 @@ use Rattle.script.specs.declared.problem.Problem.{Problem}
 use Rattle.script.specs.Line.{lines_after, lines_of}
 use Rattle.script.specs.Play.{line_played, line_left}
 use Rattle.script.specs.Script.{Outcome, grown, goes_on, lines_played, TranscriptStays}
-use Rattle.script.specs.Session.{State}
+use Rattle.script.specs.Session.{State, nothing}
 
 abbrev Begins : {X : Type 0} → List X → List X → Type 0
 Begins {X} xs ys = (rest : List X) × (xs ≡ ys ++ rest)
@@ -49,5 +49,5 @@ stays t memory number (l ∷ ls) more = stays_after t (line_played memory number
 pub transcript_stays : (script : List ℕ) → TranscriptStays script
 transcript_stays script more =
     let p = lines_begin [] script more in
-    let q = stays [] None 1 (lines_of script) p.0 in
-    (q.0, ap (λ ls. (lines_played [] None 1 ls).transcript) p.1 ∙ q.1)
+    let q = stays [] nothing 1 (lines_of script) p.0 in
+    (q.0, ap (λ ls. (lines_played [] nothing 1 ls).transcript) p.1 ∙ q.1)

@@ -4,6 +4,7 @@ mod Later
 mod Lines
 mod Parts
 mod Prefixes
+mod Replayed
 mod Spaced
 mod Texts
 mod Words

@@ -16,7 +16,7 @@ use Rattle.script.specs.declared.problem.Problem.{Problem}
 use Rattle.script.specs.Line.{begun, lines_after}
 use Rattle.script.specs.Play.{line_played, line_left}
 use Rattle.script.specs.Script.{Outcome, goes_on, lines_played, script_played}
-use Rattle.script.specs.Session.{State}
+use Rattle.script.specs.Session.{State, nothing}
 use Rattle.script.proofs.Parts.{onto, onto_none, onto_first_again}
 
 abbrev pub is_line_feed : ℕ → Bool
@@ -63,10 +63,10 @@ trimmed_plays t memory number (part ∷ next ∷ parts) =
     same_after t (line_played memory number part) _ _ (λ u. trimmed_plays u (line_left memory part) (number + 1) (next ∷ parts))
 
 -- the parts of a script play as its lines
-pub parts_play : (script : List ℕ) → lines_played [] None 1 (parts_of script) ≡ script_played script
+pub parts_play : (script : List ℕ) → lines_played [] nothing 1 (parts_of script) ≡ script_played script
 parts_play script =
-    trimmed_plays [] None 1 (parts_of script)
-    ∙ ap (lines_played [] None 1) (ap trimmed (sym (onto_none (parts_of script) (has_parts script))) ∙ sym (lines_split_after [] script))
+    trimmed_plays [] nothing 1 (parts_of script)
+    ∙ ap (lines_played [] nothing 1) (ap trimmed (sym (onto_none (parts_of script) (has_parts script))) ∙ sym (lines_split_after [] script))
 
 -- a script that is split at its line feeds and counted gives its parts, numbered from 0
 pub numbered_parts : {F : Type 0} (g : Mut F (Bor ℕ × Unit {0}) Bool) {f : F} {split : Split ℕ F} {items iterator : Enumerate (Split ℕ F)} (script : List ℕ)

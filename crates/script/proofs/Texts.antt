@@ -3,7 +3,7 @@ use Rattle.std.proofs.Common.{◌≡◌, ℕ, ◌-◌, ◌<◌, List, [], ◌∷
 use lib.ListN.{length-map}
 use Rattle.std.proofs.lemmas.List.{get_or-map, take_rest}
 use Rattle.script.specs.Line.{texts}
-use Rattle.script.specs.Statement.{nth_word}
+use Rattle.script.specs.Parts.{nth_word}
 
 pub texts_short : (ws : List (Bor (List ℕ))) → length ws < 1 → texts ws ≡ []
 unfolding texts

@@ -1,9 +1,13 @@
+pub mod Calls
 pub mod Failure
 pub mod Line
 pub mod Number
+pub mod Parts
 pub mod Play
+pub mod Replay
 pub mod Script
 pub mod Session
+pub mod Stage
 pub mod Statement
 pub mod Then
 pub mod Transcript

@@ -17,7 +17,7 @@ said_by memory words = do
   Ok (line_text words a)
 
 -- and the memory after it
-abbrev pub left_after : State → Result Statement Reason → State
+abbrev pub left_after : State → Result (Statement (List ℕ)) Reason → State
 left_after memory (Ok s) = left memory s
 left_after memory (Err e) = memory
 

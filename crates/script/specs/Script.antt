@@ -6,7 +6,7 @@ use Rattle.script.specs.declared.player.Played.{Played}
 use Rattle.script.specs.declared.problem.Problem.{Problem}
 use Rattle.script.specs.Line.{lines_of}
 use Rattle.script.specs.Play.{line_played, line_left}
-use Rattle.script.specs.Session.{State}
+use Rattle.script.specs.Session.{State, nothing}
 
 pub record Outcome : Type 0 where
   pub transcript : List ℕ
@@ -38,7 +38,7 @@ lines_played t memory number (line ∷ lines) = goes_on t (line_played memory nu
 
 -- a script is played from nothing, and its lines count from 1
 abbrev pub script_played : List ℕ → Outcome
-script_played script = lines_played [] None 1 (lines_of script)
+script_played script = lines_played [] nothing 1 (lines_of script)
 
 -- what follows a script on a new line leaves its transcript as it is, and goes on after it
 abbrev pub TranscriptStays : List ℕ → Type 0

@@ -2,6 +2,7 @@
 #![tactic(auto)]
 
 mod answer;
+mod call;
 mod failure;
 mod line;
 mod number;
@@ -9,6 +10,7 @@ mod player;
 mod problem;
 mod reason;
 mod session;
+mod stage;
 mod statement;
 mod transcript;
 

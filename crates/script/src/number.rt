@@ -1,6 +1,6 @@
 // Numbers: decimal digits, `0o` and octal digits, or `0x` and hexadecimal digits.
 ghost use Rattle.std.specs.Prelude.{◌≡◌, ℕ, ◌^◌, ◌<◌, ◌≤◌, Ok, decimal};
-ghost use Rattle.script.specs.Number.{numeral, in_base, number_of};
+ghost use Rattle.script.specs.Number.{numeral, in_base, number_of, number_up_to};
 
 use crate::reason::Reason;
 
@@ -36,4 +36,15 @@ pub fn read_number(word: &[u8]) -> Result<u32, Reason>
         [b'0', b'x', digits @ ..] => in_base(16, digits),
         _ => in_base(10, word),
     }
+}
+
+// The number that a word is, if it is no larger than another.
+pub(crate) fn read_number_up_to(most: u32, word: &[u8]) -> Result<u32, Reason>
+    ensures { result ≡ number_up_to most word.now }
+{
+    let number = read_number(word)?;
+    if number > most {
+        return Err(Reason::OutOfRange);
+    }
+    Ok(number)
 }

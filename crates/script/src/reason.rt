@@ -14,6 +14,8 @@ pub enum Reason {
     TooLarge,
     NoMemory,
     SecondMemory,
+    NoInstallation,
+    Installed,
     OutOfRange,
 }
 
@@ -28,6 +30,8 @@ impl fmt::Display for Reason {
             Reason::TooLarge => write!(f, "number of 2^32 or more"),
             Reason::NoMemory => write!(f, "no memory yet"),
             Reason::SecondMemory => write!(f, "a second memory"),
+            Reason::NoInstallation => write!(f, "no installation yet"),
+            Reason::Installed => write!(f, "installed already"),
             Reason::OutOfRange => write!(f, "number out of range"),
         }
     }

@@ -2,25 +2,35 @@
 #![tactic(auto, using(crate::proofs::Texts::length_texts, crate::proofs::Texts::text_at))]
 
 ghost use Rattle.std.specs.Prelude.{◌≡◌};
+ghost use Rattle.script.specs.Failure.{Gives};
 ghost use Rattle.script.specs.Line.{texts};
-ghost use Rattle.script.specs.Statement.{half_of, kind_of, size_of, part_of, single_statement, pair_statement, layout_statement, memory_statement, damage_statement, raw_statement, count_statement, fetch_statement, put_statement, put_half_statement, named_statement, statement_of};
+ghost use Rattle.script.specs.Statement.{statement_seen, read_statement, half_of, kind_of, size_of, part_of, single_statement, pair_statement, layout_statement, memory_statement, damage_statement, raw_statement, count_statement, fetch_statement, put_statement, put_half_statement, install_statement, plain_statement, named_statement, statement_of};
 
-use crate::number::read_number;
+use crate::call;
+use crate::failure::Failure;
+use crate::number::{read_number, read_number_up_to};
 use crate::reason::Reason;
+use engine::Call;
 use memories::{Kind, Layout, Part, Rule, Side};
+use std::alloc::Global;
 use store::{CellAddress, Half, Operation};
 
 // The most numbers that a script's memory may have.
 const MOST_NUMBERS: u32 = 262_144;
 
-#[derive(Clone, Copy, Debug, PartialEq, Eq)]
-pub enum Statement {
+// B is what bytes are given in.
+#[derive(Debug, PartialEq, Eq, Drop)]
+pub enum Statement<B> {
     // makes the memories
     Memory(Layout),
     // makes a number of a memory another
     Raw { side: Side, index: u32, value: u32 },
     // does a function of the store
     Operation(Operation),
+    // makes an installation over the memories
+    Install,
+    // calls it
+    Call(Call<B>),
 }
 
 // A function: a TryFrom would have to stand in `store`, and would need an error type of its own there.
@@ -49,11 +59,7 @@ fn read_kind(word: &[u8]) -> Result<Kind, Reason>
 fn read_size(word: &[u8]) -> Result<u32, Reason>
     ensures { result ≡ size_of word.now }
 {
-    let size = read_number(word)?;
-    if size > MOST_NUMBERS {
-        return Err(Reason::OutOfRange);
-    }
-    Ok(size)
+    read_number_up_to(MOST_NUMBERS, word)
 }
 
 // KIND N
@@ -66,8 +72,8 @@ fn read_part(kind: &[u8], size: &[u8]) -> Result<Part, Reason>
 }
 
 // memory KIND N
-fn single(kind: &[u8], args: &[&[u8]]) -> Result<Statement, Reason>
-    ensures { result ≡ single_statement kind.now (texts args.now) }
+fn single(kind: &[u8], args: &[&[u8]]) -> Result<Statement<Vec<u8>>, Reason>
+    ensures { read_statement result ≡ single_statement kind.now (texts args.now) }
 {
     let kind = read_kind(kind)?;
     let [size] = args else {
@@ -78,8 +84,8 @@ fn single(kind: &[u8], args: &[&[u8]]) -> Result<Statement, Reason>
 }
 
 // memory continuous KIND N KIND M, memory interleaved KIND N KIND M
-fn pair(rule: Rule, args: &[&[u8]]) -> Result<Statement, Reason>
-    ensures { result ≡ pair_statement rule (texts args.now) }
+fn pair(rule: Rule, args: &[&[u8]]) -> Result<Statement<Vec<u8>>, Reason>
+    ensures { read_statement result ≡ pair_statement rule (texts args.now) }
 {
     let [first_kind, first_size, second_kind, second_size] = args else {
         return Err(Reason::WordCount);
@@ -94,8 +100,8 @@ fn pair(rule: Rule, args: &[&[u8]]) -> Result<Statement, Reason>
 }
 
 // The word after `memory` says what follows.
-fn layout(word: &[u8], args: &[&[u8]]) -> Result<Statement, Reason>
-    ensures { result ≡ layout_statement word.now (texts args.now) }
+fn layout(word: &[u8], args: &[&[u8]]) -> Result<Statement<Vec<u8>>, Reason>
+    ensures { read_statement result ≡ layout_statement word.now (texts args.now) }
 {
     // Not a match: with texts as long as these the last arm's goal stays open.
     if word == b"continuous".as_slice() {
@@ -108,8 +114,8 @@ fn layout(word: &[u8], args: &[&[u8]]) -> Result<Statement, Reason>
 }
 
 #[tactic(auto, using(crate::proofs::Texts::texts_short, crate::proofs::Texts::texts_first))]
-fn memory(args: &[&[u8]]) -> Result<Statement, Reason>
-    ensures { result ≡ memory_statement (texts args.now) }
+fn memory(args: &[&[u8]]) -> Result<Statement<Vec<u8>>, Reason>
+    ensures { read_statement result ≡ memory_statement (texts args.now) }
 {
     let [word, args @ ..] = args else {
         return Err(Reason::WordCount);
@@ -118,8 +124,8 @@ fn memory(args: &[&[u8]]) -> Result<Statement, Reason>
 }
 
 // raw INDEX VALUE, raw second INDEX VALUE
-fn damage(side: Side, args: &[&[u8]]) -> Result<Statement, Reason>
-    ensures { result ≡ damage_statement side (texts args.now) }
+fn damage(side: Side, args: &[&[u8]]) -> Result<Statement<Vec<u8>>, Reason>
+    ensures { read_statement result ≡ damage_statement side (texts args.now) }
 {
     let [index, value] = args else {
         return Err(Reason::WordCount);
@@ -130,8 +136,8 @@ fn damage(side: Side, args: &[&[u8]]) -> Result<Statement, Reason>
 }
 
 #[tactic(auto, using(crate::proofs::Texts::texts_short, crate::proofs::Texts::texts_first))]
-fn raw(args: &[&[u8]]) -> Result<Statement, Reason>
-    ensures { result ≡ raw_statement (texts args.now) }
+fn raw(args: &[&[u8]]) -> Result<Statement<Vec<u8>>, Reason>
+    ensures { read_statement result ≡ raw_statement (texts args.now) }
 {
     match args {
         [word, args @ ..] if *word == b"second".as_slice() => damage(Side::Second, args),
@@ -140,8 +146,8 @@ fn raw(args: &[&[u8]]) -> Result<Statement, Reason>
 }
 
 // count
-fn count(args: &[&[u8]]) -> Result<Statement, Reason>
-    ensures { result ≡ count_statement (texts args.now) }
+fn count(args: &[&[u8]]) -> Result<Statement<Vec<u8>>, Reason>
+    ensures { read_statement result ≡ count_statement (texts args.now) }
 {
     let [] = args else {
         return Err(Reason::WordCount);
@@ -150,8 +156,8 @@ fn count(args: &[&[u8]]) -> Result<Statement, Reason>
 }
 
 // fetch CELL
-fn fetch(args: &[&[u8]]) -> Result<Statement, Reason>
-    ensures { result ≡ fetch_statement (texts args.now) }
+fn fetch(args: &[&[u8]]) -> Result<Statement<Vec<u8>>, Reason>
+    ensures { read_statement result ≡ fetch_statement (texts args.now) }
 {
     let [cell] = args else {
         return Err(Reason::WordCount);
@@ -161,8 +167,8 @@ fn fetch(args: &[&[u8]]) -> Result<Statement, Reason>
 }
 
 // put CELL WORD
-fn put(args: &[&[u8]]) -> Result<Statement, Reason>
-    ensures { result ≡ put_statement (texts args.now) }
+fn put(args: &[&[u8]]) -> Result<Statement<Vec<u8>>, Reason>
+    ensures { read_statement result ≡ put_statement (texts args.now) }
 {
     let [cell, word] = args else {
         return Err(Reason::WordCount);
@@ -173,8 +179,8 @@ fn put(args: &[&[u8]]) -> Result<Statement, Reason>
 }
 
 // put-half CELL upper|lower HALF
-fn put_half(args: &[&[u8]]) -> Result<Statement, Reason>
-    ensures { result ≡ put_half_statement (texts args.now) }
+fn put_half(args: &[&[u8]]) -> Result<Statement<Vec<u8>>, Reason>
+    ensures { read_statement result ≡ put_half_statement (texts args.now) }
 {
     let [cell, half, value] = args else {
         return Err(Reason::WordCount);
@@ -189,28 +195,66 @@ fn put_half(args: &[&[u8]]) -> Result<Statement, Reason>
     }))
 }
 
-// The statement of a name and the words after it.
-fn read_named(name: &[u8], args: &[&[u8]]) -> Result<Statement, Reason>
-    ensures { result ≡ named_statement name.now (texts args.now) }
+// install
+fn install(args: &[&[u8]]) -> Result<Statement<Vec<u8>>, Reason>
+    ensures { read_statement result ≡ install_statement (texts args.now) }
 {
-    match name {
-        b"memory" => memory(args),
-        b"raw" => raw(args),
-        b"count" => count(args),
-        b"fetch" => fetch(args),
-        b"put" => put(args),
-        b"put-half" => put_half(args),
-        _ => Err(Reason::UnknownWord),
+    let [] = args else {
+        return Err(Reason::WordCount);
+    };
+    Ok(Statement::Install)
+}
+
+// The statement of a name that carries no bytes. Not a match: with so many texts the last arm's goal stays open.
+fn read_plain(name: &[u8], args: &[&[u8]]) -> Result<Statement<Vec<u8>>, Reason>
+    ensures { read_statement result ≡ plain_statement name.now (texts args.now) }
+{
+    if name == b"memory".as_slice() {
+        memory(args)
+    } else if name == b"raw".as_slice() {
+        raw(args)
+    } else if name == b"count".as_slice() {
+        count(args)
+    } else if name == b"fetch".as_slice() {
+        fetch(args)
+    } else if name == b"put".as_slice() {
+        put(args)
+    } else if name == b"put-half".as_slice() {
+        put_half(args)
+    } else if name == b"install".as_slice() {
+        install(args)
+    } else {
+        Ok(Statement::Call(call::plain(name, args)?))
+    }
+}
+
+// The statement of a name and the words after it.
+fn read_named(
+    heap: Global,
+    name: &[u8],
+    args: &[&[u8]],
+) -> Result<Statement<Vec<u8>>, Failure<Reason>>
+    ensures { Gives statement_seen result (named_statement name.now (texts args.now)) }
+{
+    if name == b"save".as_slice() {
+        Ok(Statement::Call(call::save(heap, args)?))
+    } else if name == b"restore".as_slice() {
+        Ok(Statement::Call(call::restore(heap, args)?))
+    } else {
+        Ok(read_plain(name, args)?)
     }
 }
 
 // The statement that the words of a line make.
 #[tactic(auto, using(crate::proofs::Texts::texts_short, crate::proofs::Texts::texts_first), unfolding(crate::specs::Statement::statement_of))]
-pub fn read_statement(words: &[&[u8]]) -> Result<Statement, Reason>
-    ensures { result ≡ statement_of (texts words.now) }
+pub fn read_statement(
+    heap: Global,
+    words: &[&[u8]],
+) -> Result<Statement<Vec<u8>>, Failure<Reason>>
+    ensures { Gives statement_seen result (statement_of (texts words.now)) }
 {
     let [name, args @ ..] = words else {
-        return Err(Reason::WordCount);
+        return Err(Reason::WordCount.into());
     };
-    read_named(name, args)
+    read_named(heap, name, args)
 }

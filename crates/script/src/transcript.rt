@@ -1,7 +1,7 @@
 // A line of the transcript.
 ghost use Rattle.std.specs.Prelude.{◌≡◌, IfOk};
 ghost use Rattle.script.specs.Line.{texts};
-ghost use Rattle.script.specs.Transcript.{line_text};
+ghost use Rattle.script.specs.Transcript.{answer_seen, line_text};
 
 use crate::answer::Answer;
 use std::alloc::{AllocError, Global};
@@ -11,9 +11,9 @@ use std::alloc::{AllocError, Global};
 pub(crate) fn write_line(
     heap: Global,
     words: &[&[u8]],
-    answer: Answer,
+    answer: &Answer<Vec<u8>>,
 ) -> Result<Vec<u8>, AllocError>
-    ensures { IfOk result (λ v. v.items ≡ line_text (texts words.now) answer) }
+    ensures { IfOk result (λ v. v.items ≡ line_text (texts words.now) (answer_seen answer.now)) }
 {
     let mut text = Vec::new(heap);
     // A loop, since words are bytes and no text that a `join` or a `write!` takes.
