@@ -1,4 +1,4 @@
-# `make demo` builds the console and plays `examples/store.script`; `make test` is the gate; `make vectors` writes the vectors of arithmetic anew, and
+# `make demo` builds the console and plays `examples/rate.script`; `make test` is the gate; `make vectors` writes the vectors of arithmetic anew, and
 # `make player-lines` the cases that the player plays.
 # `make cases` has the checker compute the cases in `tools/cases` from the definitions; it is no part of the gate.
 .PHONY: demo test vectors player-lines cases
@@ -6,7 +6,7 @@
 demo:
 	@mkdir -p target
 	@echo "Proving and building the console; the first time takes some minutes (log: target/demo.log)."
-	@cd crates/console && rt run < ../../examples/store.script 2> ../../target/demo.log || { tail -n 20 ../../target/demo.log; exit 1; }
+	@cd crates/console && rt run < ../../examples/rate.script 2> ../../target/demo.log || { tail -n 20 ../../target/demo.log; exit 1; }
 
 test:
 	@.ci/run

@@ -1,5 +1,7 @@
 // What the library reads and answers, bad lines too.
+use engine::{Call, Request, Terms};
 use memories::{Kind, Layout, Part, Rule, Side};
+use processor::RelativeAddress;
 use script::{
     Answer, Failure, Problem, Reason, Session, Statement, play, read_number, read_statement,
     split_words,
@@ -60,8 +62,8 @@ fn words(rt: HostRuntime) -> Result<(), Fail> {
     check_words(&rt, heap, b"  load  0x10 b  ", &[b"load", b"0x10", b"b"])
 }
 
-fn read(heap: Global, line: &[u8]) -> Result<Statement, Failure<Reason>> {
-    Ok(read_statement(split_words(heap, line)?.as_slice())?)
+fn read(heap: Global, line: &[u8]) -> Result<Statement<Vec<u8>>, Failure<Reason>> {
+    read_statement(heap, split_words(heap, line)?.as_slice())
 }
 
 #[test]
@@ -118,9 +120,8 @@ fn layouts(rt: HostRuntime) {
 #[test]
 fn a_statement_before_the_memory(rt: HostRuntime) -> Result<(), Fail> {
     let mut session = Session::new();
-    let count = Statement::Operation(Operation::Count);
     assert_eq!(rt;
-        session.perform(rt.alloc(), count),
+        session.perform(rt.alloc(), Statement::Operation(Operation::Count)),
         Err(Failure::Wrong(Reason::NoMemory))
     );
     let words = Part {
@@ -132,7 +133,7 @@ fn a_statement_before_the_memory(rt: HostRuntime) -> Result<(), Fail> {
         Ok(Answer::Done)
     );
     assert_eq!(rt;
-        session.perform(rt.alloc(), count),
+        session.perform(rt.alloc(), Statement::Operation(Operation::Count)),
         Ok(Answer::Reply(Reply::Counted(131_072)))
     );
     Ok(())
@@ -152,7 +153,7 @@ fn second_line(
 #[test]
 fn bad_lines(rt: HostRuntime) {
     let lines: [(&[u8], Reason); 31] = [
-        (b"install", Reason::UnknownWord),
+        (b"Install", Reason::UnknownWord),
         (b"Count", Reason::UnknownWord),
         (b"memory card 2", Reason::UnknownWord),
         (b"memory second", Reason::UnknownWord),
@@ -190,6 +191,202 @@ fn bad_lines(rt: HostRuntime) {
             Err(Failure::Wrong(Problem { line: 2, reason }))
         );
     }
+}
+
+// What the last of some lines comes to.
+fn last_line(
+    heap: Global,
+    lines: &[&[u8]],
+    last: &[u8],
+) -> Result<Option<Vec<u8>>, Failure<Problem>> {
+    let mut session = Session::new();
+    for line in lines {
+        let _ = session.play_line(heap, 1, line)?;
+    }
+    session.play_line(heap, 2, last)
+}
+
+#[test]
+fn bad_calls(rt: HostRuntime) {
+    let lines: [(&[u8], Reason); 36] = [
+        (b"Admit 0 0 1 0", Reason::UnknownWord),
+        (b"loads 0 0 0", Reason::UnknownWord),
+        (b"saved 0 29", Reason::UnknownWord),
+        (b"retired 0", Reason::UnknownWord),
+        (b"install 0", Reason::WordCount),
+        (b"admit 0 0 1", Reason::WordCount),
+        (b"load 0 0", Reason::WordCount),
+        (b"look 0", Reason::WordCount),
+        (b"run 0", Reason::WordCount),
+        (b"run 0 1 2", Reason::WordCount),
+        (b"answer 0 0 0", Reason::WordCount),
+        (b"save 0", Reason::WordCount),
+        (b"restore 0", Reason::WordCount),
+        (b"restore 0 00 1b", Reason::WordCount),
+        (b"tell", Reason::WordCount),
+        (b"retire 0 0", Reason::WordCount),
+        (b"span", Reason::WordCount),
+        (b"fixed 1", Reason::WordCount),
+        (b"admit zero 0 1 0", Reason::NotANumber),
+        (b"load 0 0 0o8", Reason::NotANumber),
+        (b"look 0 -1", Reason::NotANumber),
+        (b"run 0 ten", Reason::NotANumber),
+        (b"answer 0 0 0 P", Reason::NotANumber),
+        (b"save 0 -", Reason::NotANumber),
+        (b"restore zero -", Reason::NotANumber),
+        (b"restore 0 0", Reason::NotANumber),
+        (b"restore 0 001", Reason::NotANumber),
+        (b"restore 0 0g", Reason::NotANumber),
+        (b"restore 0 --", Reason::NotANumber),
+        (b"restore 0 0x00", Reason::NotANumber),
+        (b"restore x 0", Reason::NotANumber),
+        (b"tell one", Reason::NotANumber),
+        (b"retire 4294967296", Reason::TooLarge),
+        (b"save x 4097", Reason::NotANumber),
+        (b"save 0 4097", Reason::OutOfRange),
+        (b"fixed 1 4294967296", Reason::TooLarge),
+    ];
+    for (line, reason) in lines {
+        assert_eq!(rt;
+            last_line(rt.alloc(), &[b"memory word 2", b"install"], line),
+            Err(Failure::Wrong(Problem { line: 2, reason }))
+        );
+    }
+}
+
+// One of each call.
+const CALLS: [&[u8]; 11] = [
+    b"admit 0 0 1 0",
+    b"load 0 0 0",
+    b"look 0 0",
+    b"run 0 1",
+    b"answer 0 0 0 0",
+    b"save 0 29",
+    b"restore 0 -",
+    b"tell 0",
+    b"retire 0",
+    b"span 0",
+    b"fixed 1 0",
+];
+
+#[test]
+fn calls_before_the_install(rt: HostRuntime) {
+    for line in CALLS {
+        let problem = Failure::Wrong(Problem {
+            line: 2,
+            reason: Reason::NoInstallation,
+        });
+        assert_eq!(rt; last_line(rt.alloc(), &[], line), Err(problem));
+        assert_eq!(rt;
+            last_line(rt.alloc(), &[b"memory word 2"], line),
+            Err(problem)
+        );
+    }
+}
+
+#[test]
+fn memory_statements_after_the_install(rt: HostRuntime) {
+    let lines: [&[u8]; 9] = [
+        b"memory word 2",
+        b"memory interleaved word 2 parity 2",
+        b"raw 0 0",
+        b"raw second 0 0",
+        b"count",
+        b"fetch 0",
+        b"put 0 1",
+        b"put-half 0 upper 1",
+        b"install",
+    ];
+    for line in lines {
+        assert_eq!(rt;
+            last_line(rt.alloc(), &[b"memory word 2", b"install"], line),
+            Err(Failure::Wrong(Problem {
+                line: 2,
+                reason: Reason::Installed,
+            }))
+        );
+    }
+}
+
+#[test]
+fn an_install_before_the_memory(rt: HostRuntime) {
+    assert_eq!(rt;
+        last_line(rt.alloc(), &[], b"install"),
+        Err(Failure::Wrong(Problem {
+            line: 2,
+            reason: Reason::NoMemory,
+        }))
+    );
+}
+
+#[test]
+fn calls_are_read(rt: HostRuntime) -> Result<(), Fail> {
+    let heap = rt.alloc();
+    assert_eq!(rt;
+        read(heap, b"admit 1 2 3 4"),
+        Ok(Statement::Call(Call::Admit {
+            place: 1,
+            lower: CellAddress(2),
+            terms: Terms {
+                length: 3,
+                entry: RelativeAddress(4),
+            },
+        }))
+    );
+    assert_eq!(rt;
+        read(heap, b"answer 1 2 3 4"),
+        Ok(Statement::Call(Call::Ask {
+            place: 1,
+            request: Request::Answer { a: 2, q: 3, p: 4 },
+        }))
+    );
+    assert_eq!(rt;
+        read(heap, b"restore 5 00fFaB"),
+        Ok(Statement::Call(Call::Ask {
+            place: 5,
+            request: Request::Restore {
+                bytes: [0x00, 0xff, 0xab].to_vec(heap)?,
+            },
+        }))
+    );
+    assert_eq!(rt;
+        read(heap, b"save 5 4096"),
+        Ok(Statement::Call(Call::Ask {
+            place: 5,
+            request: Request::Save {
+                buffer: vec![in heap; 0; 4096]?,
+            },
+        }))
+    );
+    Ok(())
+}
+
+// A worker was admitted, and one line follows.
+fn check_last(rt: &impl Abort, heap: Global, line: &[u8], text: &[u8]) -> Result<(), Fail> {
+    let lines: [&[u8]; 3] = [b"memory word 8", b"install", b"admit 3 2 6 5"];
+    assert_eq!(rt; last_line(heap, &lines, line), Ok(Some(text.to_vec(heap)?)));
+    Ok(())
+}
+
+#[test]
+fn calls_are_answered(rt: HostRuntime) -> Result<(), Fail> {
+    let heap = rt.alloc();
+    check_last(&rt, heap, b" span  3 # where", b"span 3 -> lower 2, length 6")?;
+    check_last(&rt, heap, b"look 3 0x5", b"look 3 0x5 -> 0000000000")?;
+    check_last(&rt, heap, b"look 3 6", b"look 3 6 -> refused 8")?;
+    check_last(&rt, heap, b"fixed 5 0", b"fixed 5 0 -> 30")?;
+    check_last(
+        &rt,
+        heap,
+        b"run 3 1",
+        b"run 3 1 -> 1 steps, illegal instruction, address 5, reference none",
+    )?;
+    check_last(
+        &rt,
+        heap,
+        b"save 3 29",
+        b"save 3 29 -> 001b010000000000000000000000000000000000000000000000000005",
+    )
 }
 
 #[test]
