@@ -371,7 +371,12 @@ fn check_last(rt: &impl Abort, heap: Global, line: &[u8], text: &[u8]) -> Result
 #[test]
 fn calls_are_answered(rt: HostRuntime) -> Result<(), Fail> {
     let heap = rt.alloc();
-    check_last(&rt, heap, b" span  3 # where", b"span 3 -> lower 2, length 6")?;
+    check_last(
+        &rt,
+        heap,
+        b" span  3 # where",
+        b"span 3 -> lower 2, length 6",
+    )?;
     check_last(&rt, heap, b"look 3 0x5", b"look 3 0x5 -> 0000000000")?;
     check_last(&rt, heap, b"look 3 6", b"look 3 6 -> refused 8")?;
     check_last(&rt, heap, b"fixed 5 0", b"fixed 5 0 -> 30")?;

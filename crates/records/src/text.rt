@@ -24,10 +24,16 @@ impl fmt::Display for IndexRegisters<'_> {
     ghost output = { λ b. Some (b_texts b.0.now) };
 
     fn fmt<W: fmt::Write>(&self, f: &mut fmt::Formatter<W>) -> fmt::Result {
-        let (b1, b2, b3, b4) = (self.0.half(1), self.0.half(2), self.0.half(3), self.0.half(4));
-        let (b5, b6, b7) = (self.0.half(5), self.0.half(6), self.0.half(7));
-        write!(f, "{b1} {b2} {b3} {b4} ")?;
-        write!(f, "{b5} {b6} {b7}")
+        let r = self.0;
+        write!(
+            f,
+            "{} {} {} {} ",
+            r.half(1),
+            r.half(2),
+            r.half(3),
+            r.half(4)
+        )?;
+        write!(f, "{} {} {}", r.half(5), r.half(6), r.half(7))
     }
 }
 

@@ -66,10 +66,7 @@ fn after_memories(mut setup: Setup, statement: Statement<Vec<u8>>) -> (Stage, Ou
     ensures after { state_of result.0 ≡ left_on setup (statement_seen statement) }
 {
     match statement {
-        Statement::Memory(_) => (
-            Stage::Memories(setup),
-            Err(Reason::SecondMemory.into()),
-        ),
+        Statement::Memory(_) => (Stage::Memories(setup), Err(Reason::SecondMemory.into())),
         Statement::Raw { side, index, value } => match setup.replace_number(side, index, value) {
             Ok(()) => (Stage::Memories(setup), Ok(Answer::Done)),
             Err(error) => (Stage::Memories(setup), Err(Reason::from(error).into())),
@@ -78,14 +75,8 @@ fn after_memories(mut setup: Setup, statement: Statement<Vec<u8>>) -> (Stage, Ou
             let reply = setup.perform(operation);
             (Stage::Memories(setup), Ok(Answer::Reply(reply)))
         }
-        Statement::Install => (
-            Stage::Installed(Installation::new(setup)),
-            Ok(Answer::Done),
-        ),
-        Statement::Call(_) => (
-            Stage::Memories(setup),
-            Err(Reason::NoInstallation.into()),
-        ),
+        Statement::Install => (Stage::Installed(Installation::new(setup)), Ok(Answer::Done)),
+        Statement::Call(_) => (Stage::Memories(setup), Err(Reason::NoInstallation.into())),
     }
 }
 

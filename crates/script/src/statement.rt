@@ -247,10 +247,7 @@ fn read_named(
 
 // The statement that the words of a line make.
 #[tactic(auto, using(crate::proofs::Texts::texts_short, crate::proofs::Texts::texts_first), unfolding(crate::specs::Statement::statement_of))]
-pub fn read_statement(
-    heap: Global,
-    words: &[&[u8]],
-) -> Result<Statement<Vec<u8>>, Failure<Reason>>
+pub fn read_statement(heap: Global, words: &[&[u8]]) -> Result<Statement<Vec<u8>>, Failure<Reason>>
     ensures { Gives statement_seen result (statement_of (texts words.now)) }
 {
     let [name, args @ ..] = words else {
