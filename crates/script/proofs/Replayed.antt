@@ -1,5 +1,5 @@
 -- The lines after an install answer as the replay of their calls does.
-use Rattle.std.proofs.Common.{◌≡◌, ℕ, ◌+◌, Bool, true, false, cond, List, [], ◌∷◌, ◌++◌, length, Some, None, Ok, Err, Option, Result, sym, refl, ap, ◌∙◌, subst, append_assoc, append-nil, arith}
+use Rattle.std.proofs.Common.{◌≡◌, ℕ, ◌+◌, true, false, cond, List, [], ◌∷◌, ◌++◌, length, Some, None, Ok, Err, Option, Result, sym, ap, ◌∙◌, subst, append_assoc, append-nil, arith}
 use Rattle.std.specs.Prelude.{◌==◌}
 use Rattle.std.proofs.lemmas.Bool.{ne_eqb}
 use Rattle.engine.specs.Exchanges.{answers_in, exchanges}
@@ -11,10 +11,10 @@ use Rattle.script.specs.declared.problem.Problem.{Problem}
 use Rattle.script.specs.declared.reason.Reason.{Reason}
 use Rattle.script.specs.declared.statement.Statement.{Statement}
 use Rattle.script.specs.declared.statement.Statement.TheVariants as st
-use Rattle.script.specs.Line.{words_of, lines_of}
+use Rattle.script.specs.Line.{words_of}
 use Rattle.script.specs.Play.{line_played, line_left, said_by, left_by, left_after, numbered}
-use Rattle.script.specs.Replay.{Asking, asking_first, askings, calls_of, answered_lines, lines_left, Installs, AnswersAreReplay}
-use Rattle.script.specs.Script.{Outcome, grown, goes_on, lines_played, script_played}
+use Rattle.script.specs.Replay.{Asking, asking_first, askings, calls_of, answered_lines, lines_left, AnswersAreReplay}
+use Rattle.script.specs.Script.{Outcome, grown, goes_on, lines_played}
 use Rattle.script.specs.Session.{State, nothing, with_memories, installed, answered}
 use Rattle.script.specs.Statement.{statement_of}
 use Rattle.script.specs.Then.{◌>>=◌}

@@ -4,12 +4,10 @@ use Rattle.std.specs.Str.{bytes_eq}
 use Rattle.std.specs.declared.alloc.Global.{Global}
 use Rattle.hex.specs.Hex.{decode_of}
 use Rattle.hex.specs.declared.error.FromHexError.{FromHexError}
-use Rattle.store.specs.declared.address.CellAddress.{CellAddress}
 use Rattle.processor.specs.Reports.{relative}
 use Rattle.engine.specs.Bytes.{call_with}
 use Rattle.engine.specs.declared.call.Call.{Call}
 use Rattle.engine.specs.declared.call.Call.TheVariants as call
-use Rattle.engine.specs.declared.call.Request.{Request}
 use Rattle.engine.specs.declared.call.Request.TheVariants as request
 use Rattle.script.specs.declared.reason.Reason.{Reason}
 use Rattle.script.specs.declared.reason.Reason.TheVariants.{UnknownWord, NotANumber}
