@@ -1,42 +1,12 @@
 // Refusals and what calls answer as text.
-ghost use Rattle.std.specs.Prelude.{◌≡◌, Some, vec_items};
+ghost use Rattle.std.specs.Prelude.{Some, vec_items};
 ghost use Rattle.engine.specs.Bytes.{answer_with};
-ghost use Rattle.engine.specs.Refusals.{number_of};
 ghost use Rattle.engine.specs.Text.{answer_text, bytes_text, refusal_text, span_text, told_text};
 
 use super::{Answer, Refusal, Span, State, Told};
 use std::error::Error;
 use std::fmt;
 use store::CellAddress;
-
-impl Refusal {
-    // The number that it is told by.
-    pub fn number(self) -> u32
-        ensures { result ≡ number_of self }
-    {
-        match self {
-            Refusal::NoSuchPlace => 1,
-            Refusal::PlaceOccupied => 2,
-            Refusal::PlaceFree => 3,
-            Refusal::BadLength => 4,
-            Refusal::PastStore => 5,
-            Refusal::CellShared => 6,
-            Refusal::EntryPastLength => 7,
-            Refusal::AddressPastLength => 8,
-            Refusal::NumberTooWide => 9,
-            Refusal::BudgetTooLarge => 10,
-            Refusal::WorkerHeld => 11,
-            Refusal::WorkerNotHeld => 12,
-            Refusal::ShortBuffer => 13,
-            Refusal::NoFixedAddress => 14,
-            Refusal::ShortRecord => 15,
-            Refusal::RecordLength => 16,
-            Refusal::RecordVersion => 17,
-            Refusal::FieldTooWide(_) => 18,
-            Refusal::Spoiled(_) => 19,
-        }
-    }
-}
 
 impl fmt::Display for Refusal {
     ghost output = { λ refusal. Some (refusal_text refusal) };
