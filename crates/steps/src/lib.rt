@@ -1,4 +1,4 @@
-// Trials of the processor over a real store: what its instructions do to a worker, worked by hand from docs/MACHINE.md.
+// Tests of the processor over a real store: what its instructions do to a worker, worked by hand from docs/MACHINE.md.
 #![tactic(auto)]
 
 #[cfg(test)]

@@ -1,4 +1,4 @@
-// What the trials share: a worker with eight words amid spoiled cells of others, and the step that it does.
+// What the tests share: a worker with eight words amid spoiled cells of others, and the step that it does.
 use processor::{Limits, Reference, ReferenceKind, RelativeAddress, Report, step};
 use records::Registers;
 use std::alloc::Global;

@@ -1,0 +1,177 @@
+// What is counted of trials.
+ghost use Rattle.std.specs.Prelude.{◌≡◌};
+ghost use Rattle.engine.specs.Refusals.{number_of};
+
+use super::kinds::Kind;
+use super::playing::Played;
+use engine::{Answer, Refusal};
+use processor::{Ending, Ran, Report};
+use std::io;
+
+// The causes of interrupts, in the order of their numbers.
+const CAUSES: [&str; 5] = [
+    "illegal instruction",
+    "protection",
+    "parity",
+    "executive return",
+    "test and set",
+];
+
+#[derive(Clone, Copy, Debug, PartialEq, Eq)]
+pub(crate) struct Counts {
+    trials: u32,
+    pub(crate) differences: u64,
+    calls_for_workers: u32,
+    other_calls: u32,
+    runs: u32,
+    steps: u64,
+    // those by cause 1 first
+    interrupts: [u32; 5],
+    // those by number 1 first
+    refusals: [u32; 19],
+    stores: [u32; 7],
+}
+
+// Counts one more at an index.
+fn count(counts: &mut [u32], index: usize) {
+    if let Some(count) = counts.get_mut(index) {
+        *count = count.saturating_add(1);
+    }
+}
+
+// The number of a refusal.
+pub(crate) fn number_of(refusal: Refusal) -> u32
+    ensures { result ≡ number_of refusal }
+{
+    match refusal {
+        Refusal::NoSuchPlace => 1,
+        Refusal::PlaceOccupied => 2,
+        Refusal::PlaceFree => 3,
+        Refusal::BadLength => 4,
+        Refusal::PastStore => 5,
+        Refusal::CellShared => 6,
+        Refusal::EntryPastLength => 7,
+        Refusal::AddressPastLength => 8,
+        Refusal::NumberTooWide => 9,
+        Refusal::BudgetTooLarge => 10,
+        Refusal::WorkerHeld => 11,
+        Refusal::WorkerNotHeld => 12,
+        Refusal::ShortBuffer => 13,
+        Refusal::NoFixedAddress => 14,
+        Refusal::ShortRecord => 15,
+        Refusal::RecordLength => 16,
+        Refusal::RecordVersion => 17,
+        Refusal::FieldTooWide(_) => 18,
+        Refusal::Spoiled(_) => 19,
+    }
+}
+
+// Which of the causes a report has.
+fn cause_index(report: Report) -> usize {
+    match report {
+        Report::IllegalInstruction(_) => 0,
+        Report::Protection(_) => 1,
+        Report::Parity(..) => 2,
+        Report::ExecutiveReturn(_) => 3,
+        Report::TestAndSet(_) => 4,
+    }
+}
+
+// The refusal that an answer tells, if it tells one.
+fn refusal_in(answer: &Answer<Vec<u8>>) -> Option<Refusal> {
+    match answer {
+        Answer::Admitted(result)
+        | Answer::Loaded(result)
+        | Answer::Answered(result)
+        | Answer::Saved(result, _)
+        | Answer::Restored(result)
+        | Answer::Retired(result) => result.err(),
+        Answer::Looked(result) => result.err(),
+        Answer::Ran(result) => result.err(),
+        Answer::Told(result) => result.err(),
+        Answer::Spanned(result) => result.err(),
+        Answer::FixedAddress(result) => result.err(),
+    }
+}
+
+impl Counts {
+    pub(crate) const NONE: Counts = Counts {
+        trials: 0,
+        differences: 0,
+        calls_for_workers: 0,
+        other_calls: 0,
+        runs: 0,
+        steps: 0,
+        interrupts: [0; 5],
+        refusals: [0; 19],
+        stores: [0; 7],
+    };
+
+    fn count_run(&mut self, ran: Ran) {
+        self.runs = self.runs.saturating_add(1);
+        self.steps = self.steps.saturating_add(u64::from(ran.steps));
+        if let Ending::Interrupted(report) = ran.ending {
+            count(&mut self.interrupts, cause_index(report));
+        }
+    }
+
+    fn count_answer(&mut self, answer: &Answer<Vec<u8>>) {
+        if let Answer::Ran(Ok(ran)) = answer {
+            self.count_run(*ran);
+        }
+        if let Some(refusal) = refusal_in(answer) {
+            count(&mut self.refusals, number_of(refusal) as usize - 1);
+        }
+    }
+
+    // Counts a store of this kind, and what was played on it.
+    pub(crate) fn count_side(&mut self, kind: Kind, played: &Played) {
+        count(&mut self.stores, kind as usize);
+        for answer in played.answers.iter() {
+            self.calls_for_workers = self.calls_for_workers.saturating_add(1);
+            self.count_answer(answer);
+        }
+        for answer in played.other_answers.iter() {
+            self.other_calls = self.other_calls.saturating_add(1);
+            self.count_answer(answer);
+        }
+    }
+
+    // Counts a trial with so many differences.
+    pub(crate) fn count_trial(&mut self, differences: usize) {
+        self.trials = self.trials.saturating_add(1);
+        self.differences = self.differences.saturating_add(differences as u64);
+    }
+
+    // Did everything occur that is to occur?
+    pub(crate) fn is_complete(&self) -> bool {
+        self.interrupts.iter().all(|number| *number > 0)
+            && self.refusals.iter().all(|number| *number > 0)
+            && self.stores.iter().all(|number| *number > 0)
+    }
+
+    fn print_occurrences(&self, rt: &impl Print) -> io::Result<()> {
+        for (cause, number) in CAUSES.iter().zip(self.interrupts.iter()) {
+            println!(rt; "interrupts, {cause}: {number}")?;
+        }
+        let mut refusal = 1u32;
+        for number in self.refusals.iter() {
+            println!(rt; "refusals by number {refusal}: {number}")?;
+            refusal = refusal.wrapping_add(1);
+        }
+        for (kind, number) in Kind::ALL.iter().zip(self.stores.iter()) {
+            println!(rt; "stores, {kind}: {number}")?;
+        }
+        Ok(())
+    }
+
+    pub(crate) fn print(&self, rt: &impl Print) -> io::Result<()> {
+        println!(rt; "trials: {}", self.trials)?;
+        println!(rt; "calls for workers: {}", self.calls_for_workers)?;
+        println!(rt; "other calls: {}", self.other_calls)?;
+        println!(rt; "runs: {}", self.runs)?;
+        println!(rt; "steps: {}", self.steps)?;
+        self.print_occurrences(rt)?;
+        println!(rt; "differences: {}", self.differences)
+    }
+}
