@@ -3,7 +3,6 @@ use super::histories::Close;
 use super::playing::Played;
 use engine::Answer;
 use std::alloc::{AllocError, Global};
-use std::fmt;
 
 // Answers are numbered from the worker's admit on, which is 0, and words by their relative addresses.
 #[derive(Clone, Copy, Debug, PartialEq, Eq)]
@@ -15,14 +14,31 @@ pub(crate) enum Difference {
     Word(u32),
 }
 
-impl fmt::Display for Difference {
-    fn fmt<W: fmt::Write>(&self, f: &mut fmt::Formatter<W>) -> fmt::Result {
+impl Difference {
+    // What it is, with what the first play has and what the second has.
+    pub(crate) fn text(
+        self,
+        heap: Global,
+        first: &Played,
+        second: &Played,
+    ) -> Result<String, AllocError> {
         match self {
-            Difference::NotAdmitted => write!(f, "the worker was not admitted"),
-            Difference::NumberOfAnswers => write!(f, "there are not as many answers"),
-            Difference::Answer(number) => write!(f, "answer {number} is another"),
-            Difference::Told => write!(f, "tell answers another at the end"),
-            Difference::Word(address) => write!(f, "word {address} is another"),
+            Difference::NotAdmitted => String::from_str(heap, "the worker was not admitted"),
+            Difference::NumberOfAnswers => String::from_str(heap, "there are not as many answers"),
+            Difference::Answer(number) => {
+                let one = first.answers.get(number as usize);
+                let other = second.answers.get(number as usize);
+                format!(in heap; "answer {number} is {one:?} and {other:?}")
+            }
+            Difference::Told => {
+                let (one, other) = (first.told, second.told);
+                format!(in heap; "tell at the end answers {one:?} and {other:?}")
+            }
+            Difference::Word(address) => {
+                let one = first.words.get(address as usize);
+                let other = second.words.get(address as usize);
+                format!(in heap; "word {address} is {one:?} and {other:?}")
+            }
         }
     }
 }

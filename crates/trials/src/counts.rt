@@ -1,5 +1,6 @@
 // What is counted of trials.
-ghost use Rattle.std.specs.Prelude.{◌≡◌};
+ghost use Rattle.std.specs.Prelude.{◌≡◌, ◌+◌};
+ghost use Rattle.processor.specs.Reports.{cause_number, cause_of};
 ghost use Rattle.engine.specs.Refusals.{number_of};
 
 use super::kinds::Kind;
@@ -66,8 +67,10 @@ pub(crate) fn number_of(refusal: Refusal) -> u32
     }
 }
 
-// Which of the causes a report has.
-fn cause_index(report: Report) -> usize {
+// Which of the causes a report has: its number less one.
+fn cause_index(report: Report) -> usize
+    ensures { result + 1 ≡ cause_number (cause_of report) }
+{
     match report {
         Report::IllegalInstruction(_) => 0,
         Report::Protection(_) => 1,

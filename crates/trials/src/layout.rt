@@ -19,6 +19,7 @@ pub(crate) struct Layout {
     pub(crate) lower: u32,
     pub(crate) length: u32,
     ghost room: { lower + length < size },
+    ghost wide: { length + 8 ≤ size },
     ghost few: { size ≤ 256 },
 }
 

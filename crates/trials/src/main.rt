@@ -27,7 +27,7 @@ use trial::trial;
 
 const SEED: u64 = 494;
 
-const TRIALS: u32 = 4_000;
+const TRIALS: u32 = 20_000;
 
 // Writes the figures, and says whether all are as they should be.
 fn place(rt: &HostRuntime) -> io::Result<bool> {

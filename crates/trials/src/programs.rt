@@ -94,6 +94,10 @@ pub(crate) fn jump_back(random: &mut Random, length: u32) -> u32
     requires some { 0 < length }
     requires few { length ≤ 32768 }
 {
-    let j = if random.once_in(4) { random.below(8) } else { 1 };
+    let j = if random.once_in(4) {
+        random.below(8)
+    } else {
+        1
+    };
     0o60 << 24 | j << 21 | random.below(length)
 }

@@ -1,7 +1,7 @@
 // One trial: a worker, and two sides that it is played on.
 ghost use Rattle.std.specs.Prelude.{◌≡◌};
 
-use super::comparing::{Difference, differences};
+use super::comparing::differences;
 use super::counts::Counts;
 use super::histories::{History, Worker};
 use super::layout::Layout;
@@ -25,12 +25,12 @@ fn side(
     })
 }
 
-// Plays a random worker, and counts. It answers the first difference, if there is one.
+// Plays a random worker, and counts. It tells the first difference, if there is one.
 pub(crate) fn trial(
     heap: Global,
     random: &mut Random,
     counts: &mut Counts,
-) -> Result<Option<Difference>, AllocError> {
+) -> Result<Option<String>, AllocError> {
     let length = 1 + random.below(32);
     let worker = Worker::any(heap, random, length)?;
     let layout = Layout::any(random, length);
@@ -42,5 +42,8 @@ pub(crate) fn trial(
     counts.count_side(other.kind, &other_played);
     let found = differences(heap, worker.close, &played, &other_played)?;
     counts.count_trial(found.len());
-    Ok(found.first().copied())
+    match found.first() {
+        None => Ok(None),
+        Some(difference) => Ok(Some(difference.text(heap, &played, &other_played)?)),
+    }
 }
