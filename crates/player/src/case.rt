@@ -22,7 +22,7 @@ pub(crate) struct Case {
 }
 
 // The words that a text is.
-fn read_words(heap: Global, text: &str) -> Result<Vec<Cell>, Problem> {
+pub(crate) fn read_words(heap: Global, text: &str) -> Result<Vec<Cell>, Problem> {
     let mut words = Vec::new(heap);
     for word in text.split_whitespace() {
         words.push(Cell::read(word).ok_or(Problem::NoCase)?)?;

@@ -1,9 +1,13 @@
-// Plays the cases of the definition on the code of the processor: each line of standard input is written to standard output with its
+// Plays the cases of the definition on the code of the processor and of installations: each line of standard input is written to standard output with its
 // results. The gate compares what it writes with what simulators and people worked out.
 #![tactic(auto)]
 
+mod answers;
+mod calls;
 mod case;
 mod cell;
+mod hexadecimal;
+mod history;
 mod memory;
 mod numbers;
 mod outcome;
@@ -13,16 +17,30 @@ mod registers;
 mod surroundings;
 
 use anyhow::bail;
+use history::{is_history, play_history};
 use playing::play_line;
+use problem::Problem;
+use std::alloc::Global;
 use std::io;
 use std::process::ExitCode;
+
+// A line with what it gives, a history's or a step's or a run's.
+fn played(heap: Global, line: &str) -> Result<String, Problem> {
+    Ok(if is_history(line) {
+        let played = play_history(heap, line)?;
+        format!(in heap; "{line} | {played}")?
+    } else {
+        let played = play_line(heap, line)?;
+        format!(in heap; "{line} | {played}")?
+    })
+}
 
 // Plays each line, up to one that cannot be played.
 fn run(rt: &HostRuntime) -> anyhow::Result<()> {
     let text = io::read_to_string(rt.alloc(), rt.stdin())?;
     for line in text.as_str().lines() {
-        match play_line(rt.alloc(), line) {
-            Ok(played) => println!(rt; "{line} | {played}")?,
+        match played(rt.alloc(), line) {
+            Ok(played) => println!(rt; "{played}")?,
             Err(problem) => bail!("{problem}: {line}"),
         }
     }

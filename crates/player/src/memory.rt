@@ -96,6 +96,16 @@ fn parity_cells(heap: Global, store: ParityStore) -> Result<Vec<Cell>, AllocErro
     Ok(cells)
 }
 
+// The parity store with these cells.
+fn parity_store(heap: Global, cells: &[Cell]) -> Result<ParityStore, AllocError> {
+    let mut numbers = Vec::new(heap);
+    for cell in cells {
+        numbers.push(half_number(cell.upper))?;
+        numbers.push(half_number(cell.lower))?;
+    }
+    Ok(ParityStore::new(numbers))
+}
+
 impl Laid for Pair<ParityStore, ParityStore> {
     fn over(heap: Global, cells: &[Cell]) -> Result<Self, AllocError> {
         let mut even = Vec::new(heap);
@@ -128,6 +138,26 @@ impl Laid for Pair<ParityStore, ParityStore> {
                 cells.push(*cell)?;
             }
         }
+        Ok(cells)
+    }
+}
+
+// An interleaved pair, and in a store behind it the last cell of an odd number of cells.
+impl Laid for Pair<Pair<ParityStore, ParityStore>, ParityStore> {
+    fn over(heap: Global, cells: &[Cell]) -> Result<Self, AllocError> {
+        let (even, last) = cells.split_at(cells.len() / 2 * 2);
+        Ok(Pair {
+            rule: Rule::Continuous,
+            first: Pair::over(heap, even)?,
+            second: parity_store(heap, last)?,
+        })
+    }
+
+    fn into_cells(self, heap: Global) -> Result<Vec<Cell>, AllocError> {
+        let Pair { first, second, .. } = self;
+        let mut cells = first.into_cells(heap)?;
+        let last = parity_cells(heap, second)?;
+        cells.extend_from_slice(last.as_slice())?;
         Ok(cells)
     }
 }

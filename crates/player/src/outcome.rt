@@ -20,7 +20,7 @@ impl fmt::Display for Outcome {
 }
 
 #[derive(Drop)]
-struct WrittenEnding(Ending);
+pub(crate) struct WrittenEnding(pub(crate) Ending);
 
 impl fmt::Display for WrittenEnding {
     fn fmt<W: fmt::Write>(&self, f: &mut fmt::Formatter<W>) -> fmt::Result {
@@ -32,7 +32,7 @@ impl fmt::Display for WrittenEnding {
 }
 
 #[derive(Drop)]
-struct WrittenReport(Report);
+pub(crate) struct WrittenReport(pub(crate) Report);
 
 impl fmt::Display for WrittenReport {
     fn fmt<W: fmt::Write>(&self, f: &mut fmt::Formatter<W>) -> fmt::Result {
