@@ -1,7 +1,8 @@
 // What is counted of trials.
-ghost use Rattle.std.specs.Prelude.{◌≡◌, ◌+◌};
+ghost use Rattle.std.specs.Prelude.{◌≡◌, ◌+◌, vec_items};
 ghost use Rattle.processor.specs.Reports.{cause_number, cause_of};
-ghost use Rattle.engine.specs.Refusals.{number_of};
+ghost use Rattle.engine.specs.Bytes.{answer_with};
+ghost use Rattle.engine.specs.Refusals.{number_of, refusal_of};
 
 use super::kinds::Kind;
 use super::playing::Played;
@@ -81,7 +82,9 @@ fn cause_index(report: Report) -> usize
 }
 
 // The refusal that an answer tells, if it tells one.
-fn refusal_in(answer: &Answer<Vec<u8>>) -> Option<Refusal> {
+fn refusal_in(answer: &Answer<Vec<u8>>) -> Option<Refusal>
+    ensures { result ≡ refusal_of (answer_with vec_items answer.now) }
+{
     match answer {
         Answer::Admitted(result)
         | Answer::Loaded(result)

@@ -18,6 +18,7 @@ pub(crate) struct Layout {
     pub(crate) seam: u32,
     pub(crate) lower: u32,
     pub(crate) length: u32,
+    ghost some: { 0 < length },
     ghost room: { lower + length < size },
     ghost wide: { length + 8 ≤ size },
     ghost few: { size ≤ 256 },
@@ -26,7 +27,8 @@ pub(crate) struct Layout {
 impl Layout {
     // A layout for a worker with so many words, with room beside it.
     pub(crate) fn any(random: &mut Random, length: u32) -> Layout
-        requires { length ≤ 32 }
+        requires some { 0 < length }
+        requires few { length ≤ 32 }
         ensures { result.length ≡ length }
     {
         let size = 4 * (10 + random.below(40));

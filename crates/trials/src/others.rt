@@ -84,6 +84,18 @@ fn admit_beside(random: &mut Random, layout: Layout, place: u32) -> Call<Vec<u8>
     }
 }
 
+// Asks for the last cell of the worker's and some after it.
+fn admit_across(random: &mut Random, layout: Layout, place: u32) -> Call<Vec<u8>> {
+    Call::Admit {
+        place,
+        lower: CellAddress(layout.lower + layout.length - 1),
+        terms: Terms {
+            length: 1 + random.below(4),
+            entry: RelativeAddress(0),
+        },
+    }
+}
+
 // Asks for room anywhere, which is mostly refused.
 fn admit_anywhere(random: &mut Random, layout: Layout, place: u32) -> Call<Vec<u8>> {
     let length = match random.below(10) {
@@ -142,6 +154,7 @@ pub(crate) fn any_other(
         (0..=3, _) => admit_beside(random, layout, place),
         (4, Moment::Beside | Moment::After) => admit_anywhere(random, layout, worker),
         (5, Moment::Beside | Moment::After) => admit_anywhere(random, layout, place),
+        (13, Moment::Beside) => admit_across(random, layout, place),
         (6, _) => any_fixed_address(random),
         (7, _) => Call::Span { place },
         (8, _) => Call::Span { place: worker },
