@@ -7,8 +7,8 @@ use super::memory::Plan;
 use super::random::Random;
 use std::alloc::{AllocError, Global};
 
-// So many words as a program around the worker is taken to have.
-const NEIGHBOUR: u32 = 12;
+// So many words as a neighbour is taken to have.
+pub(crate) const NEIGHBOUR: u32 = 12;
 
 // Where a worker lies in a store of so many cells, and as what that store is made.
 #[derive(Clone, Copy, Debug, PartialEq, Eq)]

@@ -1,7 +1,7 @@
 // Calls that are none of those for the worker.
 ghost use Rattle.std.specs.Prelude.{◌<◌, ◌≤◌, ◌+◌};
 
-use super::layout::Layout;
+use super::layout::{Layout, NEIGHBOUR};
 use super::random::Random;
 use super::requests::any_request;
 use engine::{Call, Request, Terms};
@@ -15,6 +15,85 @@ pub(crate) enum Moment {
     Before,
     Beside,
     After,
+}
+
+// What such a call is.
+#[derive(Clone, Copy, Debug, PartialEq, Eq)]
+enum Sort {
+    // admits at another place: beside the worker, across its last cell, or anywhere
+    AdmitBeside,
+    AdmitAcross,
+    AdmitAnywhere,
+    // an admit at the worker's own place
+    AdmitAtPlace,
+    Run,
+    Ask,
+    Retire,
+    Span,
+    // a request and a span at the worker's own place
+    AskAtPlace,
+    SpanAtPlace,
+    FixedAddress,
+}
+
+// What may come before the worker's admit: nothing that takes its cells or its place.
+const BEFORE: [Sort; 12] = [
+    Sort::AdmitBeside,
+    Sort::AdmitBeside,
+    Sort::AdmitBeside,
+    Sort::Run,
+    Sort::Run,
+    Sort::Ask,
+    Sort::Ask,
+    Sort::Retire,
+    Sort::Span,
+    Sort::AskAtPlace,
+    Sort::SpanAtPlace,
+    Sort::FixedAddress,
+];
+
+// What may come while it is there: no request at its place.
+const BESIDE: [Sort; 15] = [
+    Sort::AdmitBeside,
+    Sort::AdmitBeside,
+    Sort::AdmitBeside,
+    Sort::AdmitAcross,
+    Sort::AdmitAnywhere,
+    Sort::AdmitAtPlace,
+    Sort::Run,
+    Sort::Run,
+    Sort::Run,
+    Sort::Ask,
+    Sort::Ask,
+    Sort::Retire,
+    Sort::Span,
+    Sort::SpanAtPlace,
+    Sort::FixedAddress,
+];
+
+// What may come after its retire: anything.
+const AFTER: [Sort; 11] = [
+    Sort::AdmitBeside,
+    Sort::AdmitAcross,
+    Sort::AdmitAnywhere,
+    Sort::AdmitAtPlace,
+    Sort::Run,
+    Sort::Ask,
+    Sort::Retire,
+    Sort::Span,
+    Sort::AskAtPlace,
+    Sort::SpanAtPlace,
+    Sort::FixedAddress,
+];
+
+impl Moment {
+    fn any_sort(self, random: &mut Random) -> Sort {
+        match self {
+            Moment::Before => random.one_of(&BEFORE),
+            Moment::Beside => random.one_of(&BESIDE),
+            Moment::After => random.one_of(&AFTER),
+        }
+    }
 }
 
 // Cells beside the worker.
@@ -139,6 +218,12 @@ fn run_other(random: &mut Random, place: u32) -> Call<Vec<u8>> {
     }
 }
 
+// Something asked at a place, as if of a neighbour.
+fn ask_other(heap: Global, random: &mut Random, place: u32) -> Result<Call<Vec<u8>>, AllocError> {
+    let request = any_request(heap, random, NEIGHBOUR)?;
+    Ok(Call::Ask { place, request })
+}
+
 // A call that is none of those for the worker at this place. The words that the worker finds stay as they were.
 pub(crate) fn any_other(
     heap: Global,
@@ -150,23 +235,17 @@ pub(crate) fn any_other(
     requires { worker < 8 }
 {
     let place = other_place(random, worker);
-    Ok(match (random.below(16), moment) {
-        (0..=3, _) => admit_beside(random, layout, place),
-        (4, Moment::Beside | Moment::After) => admit_anywhere(random, layout, worker),
-        (5, Moment::Beside | Moment::After) => admit_anywhere(random, layout, place),
-        (13, Moment::Beside) => admit_across(random, layout, place),
-        (6, _) => any_fixed_address(random),
-        (7, _) => Call::Span { place },
-        (8, _) => Call::Span { place: worker },
-        (9, _) => Call::Retire { place },
-        (10..=12, _) => run_other(random, place),
-        (13, Moment::Before | Moment::After) => Call::Ask {
-            place: worker,
-            request: any_request(heap, random, 12)?,
-        },
-        _ => Call::Ask {
-            place,
-            request: any_request(heap, random, 12)?,
-        },
+    Ok(match moment.any_sort(random) {
+        Sort::AdmitBeside => admit_beside(random, layout, place),
+        Sort::AdmitAcross => admit_across(random, layout, place),
+        Sort::AdmitAnywhere => admit_anywhere(random, layout, place),
+        Sort::AdmitAtPlace => admit_anywhere(random, layout, worker),
+        Sort::Run => run_other(random, place),
+        Sort::Ask => ask_other(heap, random, place)?,
+        Sort::Retire => Call::Retire { place },
+        Sort::Span => Call::Span { place },
+        Sort::AskAtPlace => ask_other(heap, random, worker)?,
+        Sort::SpanAtPlace => Call::Span { place: worker },
+        Sort::FixedAddress => any_fixed_address(random),
     })
 }

@@ -62,6 +62,36 @@ fn any_load(random: &mut Random, length: u32) -> Request<Vec<u8>>
     Request::Load { address, word }
 }
 
+// What is asked, as often as it is to come.
+#[derive(Clone, Copy, Debug, PartialEq, Eq)]
+enum Asked {
+    Load,
+    Look,
+    Run,
+    Answer,
+    Save,
+    Restore,
+    Tell,
+}
+
+const ASKED: [Asked; 15] = [
+    Asked::Load,
+    Asked::Load,
+    Asked::Look,
+    Asked::Run,
+    Asked::Run,
+    Asked::Run,
+    Asked::Run,
+    Asked::Run,
+    Asked::Answer,
+    Asked::Answer,
+    Asked::Answer,
+    Asked::Answer,
+    Asked::Save,
+    Asked::Restore,
+    Asked::Tell,
+];
+
 // Something asked of a worker with so many words.
 pub(crate) fn any_request(
     heap: Global,
@@ -71,28 +101,28 @@ pub(crate) fn any_request(
     requires some { 0 < length }
     requires few { length ≤ 32768 }
 {
-    Ok(match random.below(15) {
-        0 | 1 => any_load(random, length),
-        2 => Request::Look {
+    Ok(match random.one_of(&ASKED) {
+        Asked::Load => any_load(random, length),
+        Asked::Look => Request::Look {
             address: any_address(random, length),
         },
-        3..=7 => Request::Run {
+        Asked::Run => Request::Run {
             budget: random.one_of(&BUDGETS),
         },
-        8..=11 => Request::Answer {
+        Asked::Answer => Request::Answer {
             a: any_word(random),
             q: any_word(random),
             p: any_p(random, length),
         },
-        12 => {
+        Asked::Save => {
             let size = random.one_of(&BUFFERS);
             Request::Save {
                 buffer: any_bytes(heap, random, size)?,
             }
         }
-        13 => Request::Restore {
+        Asked::Restore => Request::Restore {
             bytes: any_record(heap, random, length)?,
         },
-        _ => Request::Tell,
+        Asked::Tell => Request::Tell,
     })
 }
