@@ -1,5 +1,5 @@
 // Register records, good ones and bad ones, and buffers for them.
-ghost use Rattle.std.specs.Prelude.{◌<◌, ◌≤◌};
+ghost use Rattle.std.specs.Prelude.{◌<◌};
 
 use super::random::Random;
 use records::Registers;

@@ -1,5 +1,5 @@
 // Calls that are none of those for the worker.
-ghost use Rattle.std.specs.Prelude.{◌<◌, ◌≤◌, ◌+◌};
+ghost use Rattle.std.specs.Prelude.{◌<◌, ◌≤◌};
 
 use super::layout::{Layout, NEIGHBOUR};
 use super::random::Random;

@@ -1,6 +1,4 @@
 // One trial: a worker, and two sides that it is played on.
-ghost use Rattle.std.specs.Prelude.{◌≡◌};
-
 use super::comparing::differences;
 use super::counts::Counts;
 use super::histories::{History, Worker};
