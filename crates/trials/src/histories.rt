@@ -3,7 +3,7 @@ ghost use Rattle.std.specs.Prelude.{◌<◌, ◌≤◌};
 
 use super::cells::Cell;
 use super::layout::Layout;
-use super::others::{Moment, any_other};
+use super::others::{Moment, admit_beside, any_other, ask_other};
 use super::random::Random;
 use super::requests::any_request;
 use engine::{Call, Request, Terms};
@@ -79,6 +79,21 @@ impl History {
         Ok(())
     }
 
+    // Adds the calls for a worker that was there before, in other cells.
+    fn add_predecessor(
+        &mut self,
+        heap: Global,
+        random: &mut Random,
+        layout: Layout,
+        place: u32,
+    ) -> Result<(), AllocError> {
+        self.add(Whose::Other, admit_beside(random, layout, place))?;
+        for _ in 0..random.below(6) {
+            self.add(Whose::Other, ask_other(heap, random, place)?)?;
+        }
+        self.add(Whose::Other, Call::Retire { place })
+    }
+
     // Adds a few other calls.
     fn add_others(
         &mut self,
@@ -111,6 +126,11 @@ impl History {
             calls: Vec::new(heap),
             whose: Vec::new(heap),
         };
+        history.add_others(heap, random, layout, place, Moment::Before)?;
+        if random.once_in(2) {
+            history.add_predecessor(heap, random, layout, place)?;
+        }
+        history.add_others(heap, random, layout, place, Moment::Before)?;
         history.add_others(heap, random, layout, place, Moment::Before)?;
         history.add(Whose::Worker, admit(layout, worker))?;
         for request in worker.requests.iter() {

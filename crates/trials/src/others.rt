@@ -151,7 +151,7 @@ fn any_entry(random: &mut Random, length: u32) -> RelativeAddress {
 }
 
 // Makes a neighbour at a place, in cells that are none of the worker's.
-fn admit_beside(random: &mut Random, layout: Layout, place: u32) -> Call<Vec<u8>> {
+pub(crate) fn admit_beside(random: &mut Random, layout: Layout, place: u32) -> Call<Vec<u8>> {
     let (lower, length) = Gap::any(random, layout).part(random);
     Call::Admit {
         place,
@@ -208,18 +208,22 @@ fn any_fixed_address(random: &mut Random) -> Call<Vec<u8>> {
     }
 }
 
-// Runs a neighbour, and not for long.
+// Runs a neighbour, but not for long, so that some are still ready afterwards.
 fn run_other(random: &mut Random, place: u32) -> Call<Vec<u8>> {
     Call::Ask {
         place,
         request: Request::Run {
-            budget: random.below(100),
+            budget: random.below(30),
         },
     }
 }
 
 // Something asked at a place, as if of a neighbour.
-fn ask_other(heap: Global, random: &mut Random, place: u32) -> Result<Call<Vec<u8>>, AllocError> {
+pub(crate) fn ask_other(
+    heap: Global,
+    random: &mut Random,
+    place: u32,
+) -> Result<Call<Vec<u8>>, AllocError> {
     let request = any_request(heap, random, NEIGHBOUR)?;
     Ok(Call::Ask { place, request })
 }
