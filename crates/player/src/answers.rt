@@ -1,7 +1,4 @@
 // Answers as a history writes them.
-ghost use Rattle.std.specs.Prelude.{◌≡◌};
-ghost use Rattle.engine.specs.Refusals.{number_of};
-
 use super::hexadecimal::WrittenBytes;
 use super::outcome::{WrittenEnding, WrittenReport};
 use super::registers::Written;
@@ -9,39 +6,12 @@ use engine::{Answer, Refusal, State, Told};
 use processor::Ran;
 use std::fmt;
 
-// The number of a refusal.
-fn number_of(refusal: Refusal) -> u32
-    ensures { result ≡ number_of refusal }
-{
-    match refusal {
-        Refusal::NoSuchPlace => 1,
-        Refusal::PlaceOccupied => 2,
-        Refusal::PlaceFree => 3,
-        Refusal::BadLength => 4,
-        Refusal::PastStore => 5,
-        Refusal::CellShared => 6,
-        Refusal::EntryPastLength => 7,
-        Refusal::AddressPastLength => 8,
-        Refusal::NumberTooWide => 9,
-        Refusal::BudgetTooLarge => 10,
-        Refusal::WorkerHeld => 11,
-        Refusal::WorkerNotHeld => 12,
-        Refusal::ShortBuffer => 13,
-        Refusal::NoFixedAddress => 14,
-        Refusal::ShortRecord => 15,
-        Refusal::RecordLength => 16,
-        Refusal::RecordVersion => 17,
-        Refusal::FieldTooWide(_) => 18,
-        Refusal::Spoiled(_) => 19,
-    }
-}
-
 #[derive(Drop)]
 struct WrittenRefusal(Refusal);
 
 impl fmt::Display for WrittenRefusal {
     fn fmt<W: fmt::Write>(&self, f: &mut fmt::Formatter<W>) -> fmt::Result {
-        write!(f, "refused {}", number_of(self.0))?;
+        write!(f, "refused {}", self.0.number())?;
         match self.0 {
             Refusal::FieldTooWide(offset) => write!(f, " {offset}"),
             Refusal::Spoiled(half) => write!(f, " {half}"),

@@ -2,7 +2,7 @@
 ghost use Rattle.std.specs.Prelude.{◌≡◌, ◌+◌, vec_items};
 ghost use Rattle.processor.specs.Reports.{cause_number, cause_of};
 ghost use Rattle.engine.specs.Bytes.{answer_with};
-ghost use Rattle.engine.specs.Refusals.{number_of, refusal_of};
+ghost use Rattle.engine.specs.Refusals.{refusal_of};
 
 use super::kinds::Kind;
 use super::playing::Played;
@@ -38,33 +38,6 @@ pub(crate) struct Counts {
 fn count(counts: &mut [u32], index: usize) {
     if let Some(count) = counts.get_mut(index) {
         *count = count.saturating_add(1);
-    }
-}
-
-// The number of a refusal.
-pub(crate) fn number_of(refusal: Refusal) -> u32
-    ensures { result ≡ number_of refusal }
-{
-    match refusal {
-        Refusal::NoSuchPlace => 1,
-        Refusal::PlaceOccupied => 2,
-        Refusal::PlaceFree => 3,
-        Refusal::BadLength => 4,
-        Refusal::PastStore => 5,
-        Refusal::CellShared => 6,
-        Refusal::EntryPastLength => 7,
-        Refusal::AddressPastLength => 8,
-        Refusal::NumberTooWide => 9,
-        Refusal::BudgetTooLarge => 10,
-        Refusal::WorkerHeld => 11,
-        Refusal::WorkerNotHeld => 12,
-        Refusal::ShortBuffer => 13,
-        Refusal::NoFixedAddress => 14,
-        Refusal::ShortRecord => 15,
-        Refusal::RecordLength => 16,
-        Refusal::RecordVersion => 17,
-        Refusal::FieldTooWide(_) => 18,
-        Refusal::Spoiled(_) => 19,
     }
 }
 
@@ -126,7 +99,7 @@ impl Counts {
             self.count_run(*ran);
         }
         if let Some(refusal) = refusal_in(answer) {
-            count(&mut self.refusals, number_of(refusal) as usize - 1);
+            count(&mut self.refusals, refusal.number() as usize - 1);
         }
     }
 

@@ -1,5 +1,4 @@
 // How workers find room: figures that are worked by hand.
-use super::counts::number_of;
 use engine::{Installation, Refusal, Terms};
 use processor::RelativeAddress;
 use std::alloc::{AllocError, Global};
@@ -86,7 +85,7 @@ impl fmt::Display for Written {
     fn fmt<W: fmt::Write>(&self, f: &mut fmt::Formatter<W>) -> fmt::Result {
         match self.0 {
             Ok(()) => write!(f, "taken"),
-            Err(refusal) => write!(f, "refused by number {}", number_of(refusal)),
+            Err(refusal) => write!(f, "refused by number {}", refusal.number()),
         }
     }
 }

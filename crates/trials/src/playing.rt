@@ -91,13 +91,11 @@ fn play_on<S: Laid, T: Laid>(
         calls: second_calls,
         whose: second_whose,
     } = second.history;
-    let (first_replayed, second_replayed) = replay_both(
-        heap,
-        first_store,
-        calls,
-        second_store,
-        second_calls,
-    )?;
+    let both = match replay_both(heap, first_store, calls, second_store, second_calls) {
+        Ok(both) => both,
+        Err(lost) => return Err(lost.error),
+    };
+    let (first_replayed, second_replayed) = both;
     let first_played = Played::read(heap, first_replayed, whose.as_slice(), first.layout, place)?;
     let second_played = Played::read(
         heap,
