@@ -1,0 +1,81 @@
+// Answer: refusals 9 and 12, and what it sets.
+use super::bench::{MEMORY, ends, recorded, scene, seen_first, unchanged};
+use engine::{Refusal, State, Told};
+use std::test::Fail;
+use words::word_bits;
+
+// On a ready worker too. Nothing is cut.
+#[test]
+fn wide_numbers_are_refused(rt: HostRuntime) -> Result<(), Fail> {
+    for (a, q, p) in [
+        (1 << 30, 0, 0),
+        (0, 1 << 30, 0),
+        (0, 0, 1 << 17),
+        (4_294_967_295, 0, 0),
+        (0, 4_294_967_295, 0),
+        (0, 0, 4_294_967_295),
+        (1 << 31, 1 << 31, 1 << 31),
+        ((1 << 30) + 5, 5, 5),
+    ] {
+        for place in [1, 6] {
+            let mut scene = scene(&rt)?;
+            let answer = scene.answer(place, a, q, p);
+            assert_eq!(rt;
+                answer,
+                Err(Refusal::NumberTooWide),
+                "{a}, {q}, {p} at {place}"
+            );
+            unchanged(&rt, scene)?;
+        }
+    }
+    Ok(())
+}
+
+#[test]
+fn a_ready_worker_is_not_answered(rt: HostRuntime) -> Result<(), Fail> {
+    for (a, q, p) in [
+        (0, 0, 0),
+        (1, 2, 3),
+        ((1 << 30) - 1, (1 << 30) - 1, 131_071),
+    ] {
+        let mut scene = scene(&rt)?;
+        assert_eq!(rt;
+            scene.answer(1, a, q, p),
+            Err(Refusal::WorkerNotHeld),
+            "{a}, {q}, {p}"
+        );
+        unchanged(&rt, scene)?;
+    }
+    Ok(())
+}
+
+// B1 to B7 stay, and the report is dropped.
+#[test]
+fn an_answer_sets_a_q_and_p(rt: HostRuntime) -> Result<(), Fail> {
+    for (a, q, p) in [
+        (0, 0, 0),
+        (1, 2, 3),
+        (3, 2, 1),
+        ((1 << 30) - 1, 0, 5),
+        (0, (1 << 30) - 1, 6),
+        (0o1111111111, 0o2222222222, 131_071),
+    ] {
+        let mut scene = scene(&rt)?;
+        assert_eq!(rt; scene.answer(6, a, q, p), Ok(()), "{a}, {q}, {p}");
+        let mut registers = recorded(p);
+        registers.set_a(word_bits(a));
+        registers.set_q(word_bits(q));
+        let mut seen = seen_first();
+        seen.told[6] = Ok(Told {
+            state: State::Ready,
+            registers,
+        });
+        assert_eq!(rt;
+            scene.answer(6, a, q, p),
+            Err(Refusal::WorkerNotHeld),
+            "{a}, {q}, {p}"
+        );
+        ends(&rt, scene, seen, &MEMORY)?;
+    }
+    Ok(())
+}

@@ -1,0 +1,198 @@
+// One program for two workers at different lower limits, over a word store and over an interleaved pair of parity stores.
+use super::bench::{
+    ADDING, LOWER_SPOILED, UPPER_SPOILED, executive, interrupted, over, spent, terms, told,
+};
+use engine::{Installation, Refusal, State};
+use pairs::{Pair, Rule};
+use processor::{Reference, ReferenceKind, RelativeAddress, Report};
+use std::alloc::Global;
+use std::process::Abort;
+use std::test::Fail;
+use store::{CellAddress, Fault, Half, Store};
+use stores::ParityStore;
+use words::word_bits;
+
+// A good half of 0.
+const Z: u16 = 0x8000;
+
+// The halves of the program's words with what makes the number of ones odd, and those of the word 8.
+const W0: [u16; 2] = [0x8000 + 0o11000, 0x8005];
+
+const W1: [u16; 2] = [0o20000, 0x8003];
+
+const W2: [u16; 2] = [0o15030, 7];
+
+const W3: [u16; 2] = [0o77540, 0x8000 + 0o12];
+
+const EIGHT: [u16; 2] = [Z, 8];
+
+// The interleaved pair of two parity stores with these memories.
+fn pair(heap: Global, even: &[u16], odd: &[u16]) -> Result<Pair<ParityStore, ParityStore>, Fail> {
+    Ok(Pair {
+        rule: Rule::Interleaved,
+        first: ParityStore::new(even.iter().copied().collect(heap)?),
+        second: ParityStore::new(odd.iter().copied().collect(heap)?),
+    })
+}
+
+// Two workers are made and given the program, and run in turn.
+fn two_workers<S: Store>(rt: &impl Abort, on: &mut Installation<S>) -> Result<(), Fail> {
+    assert_eq!(rt; on.admit(0, CellAddress(3), terms(8, 0)), Ok(()));
+    assert_eq!(rt; on.admit(7, CellAddress(14), terms(8, 0)), Ok(()));
+    for place in [0, 7] {
+        for (address, word) in ADDING.into_iter().enumerate() {
+            let address = RelativeAddress(address as u32);
+            assert_eq!(rt; on.load(place, address, word), Ok(()));
+            assert_eq!(rt; on.look(place, address), Ok(word_bits(word)));
+        }
+    }
+    for (steps, a, p) in [(2, 8, 2), (1, 8, 3)] {
+        for place in [7, 0] {
+            assert_eq!(rt; on.run(place, steps), Ok(spent(steps)), "at {place}");
+            assert_eq!(rt;
+                on.tell(place),
+                Ok(told(State::Ready, a, 0, p)),
+                "at {place}"
+            );
+        }
+    }
+    for place in [0, 7] {
+        assert_eq!(rt;
+            on.run(place, 10),
+            Ok(interrupted(1, executive(10))),
+            "at {place}"
+        );
+        assert_eq!(rt;
+            on.tell(place),
+            Ok(told(State::Held(executive(10)), 8, 0, 4)),
+            "at {place}"
+        );
+        assert_eq!(rt;
+            on.look(place, RelativeAddress(7)),
+            Ok(word_bits(8)),
+            "at {place}"
+        );
+    }
+    Ok(())
+}
+
+#[test]
+fn two_workers_over_a_word_store(rt: HostRuntime) -> Result<(), Fail> {
+    let mut installation = over(rt.alloc(), &[0; 24])?;
+    two_workers(&rt, &mut installation)?;
+    let [w0, w1, w2, w3, ..] = ADDING;
+    assert_eq!(rt;
+        installation.into_store().into_memory().as_slice(),
+        [
+            0, 0, 0, w0, w1, w2, w3, 0, 0, 0, 8, 0, 0, 0, w0, w1, w2, w3, 0, 0, 0, 8, 0, 0
+        ]
+        .as_slice()
+    );
+    Ok(())
+}
+
+// Even cells are the first store's and odd ones the second's: the cell 3 is number 1 of the second store, and 14 number 7 of the first.
+#[test]
+fn two_workers_over_a_pair(rt: HostRuntime) -> Result<(), Fail> {
+    let store = pair(rt.alloc(), &[Z; 24], &[Z; 24])?;
+    let mut installation = Installation::new(store);
+    two_workers(&rt, &mut installation)?;
+    let Pair { first, second, .. } = installation.into_store();
+    let mut even = [Z; 24];
+    even[4..6].copy_from_slice(&W1);
+    even[6..8].copy_from_slice(&W3);
+    even[10..12].copy_from_slice(&EIGHT);
+    even[14..16].copy_from_slice(&W0);
+    even[16..18].copy_from_slice(&W2);
+    assert_eq!(rt; first.into_memory().as_slice(), even.as_slice());
+    let mut odd = [Z; 24];
+    odd[2..4].copy_from_slice(&W0);
+    odd[4..6].copy_from_slice(&W2);
+    odd[14..16].copy_from_slice(&W1);
+    odd[16..18].copy_from_slice(&W3);
+    odd[20..22].copy_from_slice(&EIGHT);
+    assert_eq!(rt; second.into_memory().as_slice(), odd.as_slice());
+    Ok(())
+}
+
+// The word at 0 has a spoiled lower half and the word at 1 a spoiled upper one.
+fn spoiled_words<S: Store>(rt: &impl Abort, on: &mut Installation<S>) -> Result<(), Fail> {
+    assert_eq!(rt; on.admit(2, CellAddress(1), terms(2, 0)), Ok(()));
+    assert_eq!(rt;
+        on.look(2, RelativeAddress(0)),
+        Err(Refusal::Spoiled(Half::Lower))
+    );
+    assert_eq!(rt;
+        on.look(2, RelativeAddress(1)),
+        Err(Refusal::Spoiled(Half::Upper))
+    );
+    assert_eq!(rt;
+        on.look(2, RelativeAddress(2)),
+        Err(Refusal::AddressPastLength)
+    );
+    let at = Reference {
+        kind: ReferenceKind::Fetch,
+        address: RelativeAddress(0),
+    };
+    let report = Report::Parity(at, Fault::Spoiled(Half::Lower));
+    assert_eq!(rt; on.run(2, 10), Ok(interrupted(1, report)));
+    assert_eq!(rt; on.tell(2), Ok(told(State::Held(report), 0, 0, 0)));
+    assert_eq!(rt; on.load(2, RelativeAddress(0), ADDING[3]), Ok(()));
+    assert_eq!(rt; on.answer(2, 1, 2, 0), Ok(()));
+    assert_eq!(rt; on.run(2, 10), Ok(interrupted(1, executive(10))));
+    assert_eq!(rt; on.tell(2), Ok(told(State::Held(executive(10)), 1, 2, 1)));
+    assert_eq!(rt; on.retire(2), Ok(()));
+    Ok(())
+}
+
+#[test]
+fn spoiled_words_over_a_word_store(rt: HostRuntime) -> Result<(), Fail> {
+    let memory = [9, LOWER_SPOILED + ADDING[0], UPPER_SPOILED + ADDING[1], 9];
+    let mut installation = over(rt.alloc(), &memory)?;
+    spoiled_words(&rt, &mut installation)?;
+    let memory = [9, ADDING[3], UPPER_SPOILED + ADDING[1], 9];
+    assert_eq!(rt;
+        installation.into_store().into_memory().as_slice(),
+        memory.as_slice()
+    );
+    Ok(())
+}
+
+// The cell 1 is number 0 of the second store, and 2 number 1 of the first. 5 has two ones, and 16384 + 32768 too.
+#[test]
+fn spoiled_words_over_a_pair(rt: HostRuntime) -> Result<(), Fail> {
+    let even = [Z, Z, 0o40000 + 0x8000, Z];
+    let odd = [Z, 5, Z, Z];
+    let mut installation = Installation::new(pair(rt.alloc(), &even, &odd)?);
+    spoiled_words(&rt, &mut installation)?;
+    let Pair { first, second, .. } = installation.into_store();
+    assert_eq!(rt; first.into_memory().as_slice(), even.as_slice());
+    assert_eq!(rt;
+        second.into_memory().as_slice(),
+        [W3[0], W3[1], Z, Z].as_slice()
+    );
+    Ok(())
+}
+
+// Room is counted in the pair's cells: twice 4.
+#[test]
+fn a_pairs_cells_are_the_room(rt: HostRuntime) -> Result<(), Fail> {
+    let mut installation = Installation::new(pair(rt.alloc(), &[Z; 8], &[Z; 10])?);
+    assert_eq!(rt;
+        installation.admit(0, CellAddress(1), terms(8, 0)),
+        Err(Refusal::PastStore)
+    );
+    assert_eq!(rt;
+        installation.admit(0, CellAddress(8), terms(1, 0)),
+        Err(Refusal::PastStore)
+    );
+    assert_eq!(rt; installation.admit(0, CellAddress(1), terms(7, 0)), Ok(()));
+    assert_eq!(rt; installation.load(0, RelativeAddress(6), 8), Ok(()));
+    let Pair { first, second, .. } = installation.into_store();
+    assert_eq!(rt; first.into_memory().as_slice(), [Z; 8].as_slice());
+    assert_eq!(rt;
+        second.into_memory().as_slice(),
+        [Z, Z, Z, Z, Z, Z, Z, 8, Z, Z].as_slice()
+    );
+    Ok(())
+}
