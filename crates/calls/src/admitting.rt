@@ -89,6 +89,29 @@ fn room_ends_with_the_store(rt: HostRuntime) -> Result<(), Fail> {
     Ok(())
 }
 
+// Numbers of the memory past the first 131,072 are no cells.
+#[test]
+fn no_store_has_more_than_131072_cells(rt: HostRuntime) -> Result<(), Fail> {
+    let mut memory = Vec::new(rt.alloc());
+    for _ in 0..131_080 {
+        memory.push(0)?;
+    }
+    let mut large = over(rt.alloc(), memory.as_slice())?;
+    for (lower, length, answer) in [
+        (131_072, 1, Err(Refusal::PastStore)),
+        (131_071, 2, Err(Refusal::PastStore)),
+        (131_071, 1, Ok(())),
+    ] {
+        let found = large.admit(0, CellAddress(lower), terms(length, 0));
+        assert_eq!(rt; found, answer, "from {lower} on, {length}");
+    }
+    assert_eq!(rt; large.load(0, RelativeAddress(0), 7), Ok(()));
+    let memory = large.into_store().into_memory();
+    assert_eq!(rt; memory.get(131_071).copied(), Some(7));
+    assert_eq!(rt; memory.get(131_072).copied(), Some(0));
+    Ok(())
+}
+
 #[test]
 fn a_store_of_no_cells_has_no_room(rt: HostRuntime) -> Result<(), Fail> {
     let mut empty = over(rt.alloc(), &[])?;

@@ -177,25 +177,18 @@ impl Seen {
 
 // What is seen of the scene.
 pub(crate) fn seen_first() -> Seen {
-    let free = Err(Refusal::PlaceFree);
-    let ready = Ok(told(State::Ready, 0, 0, 0));
-    let held = Ok(Told {
+    let mut told_of = [Err(Refusal::PlaceFree); 8];
+    told_of[1] = Ok(told(State::Ready, 0, 0, 0));
+    told_of[6] = Ok(Told {
         state: State::Held(executive(10)),
         registers: recorded(1),
     });
-    let no_span = Err(Refusal::PlaceFree);
+    let mut spans = [Err(Refusal::PlaceFree); 8];
+    spans[1] = Ok(span(4, 8));
+    spans[6] = Ok(span(15, 6));
     Seen {
-        told: [free, ready, free, free, free, free, held, free],
-        spans: [
-            no_span,
-            Ok(span(4, 8)),
-            no_span,
-            no_span,
-            no_span,
-            no_span,
-            Ok(span(15, 6)),
-            no_span,
-        ],
+        told: told_of,
+        spans,
         words: ADDING.map(|word| Ok(word_bits(word))),
         held_words: [
             Ok(word_bits(0o7754000012)),
