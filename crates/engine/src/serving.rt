@@ -136,10 +136,11 @@ pub(crate) fn answer<S: Store>(
         (_, false) => Err(Refusal::NumberTooWide),
         (Place::Ready(_), true) => Err(Refusal::WorkerNotHeld),
         (Place::Held(worker, _), true) => {
-            places[place as usize] = Place::Ready(Worker {
+            let answered = Worker {
                 limits: worker.limits,
                 registers: with_answer(worker.registers, a, q, p),
-            });
+            };
+            places[place as usize] = Place::Ready(answered);
             Ok(())
         }
     }
@@ -178,10 +179,11 @@ pub(crate) fn restore<S: Store>(
         Place::Free => Err(Refusal::PlaceFree),
         Place::Ready(worker) | Place::Held(worker, _) => {
             let registers = Registers::read(bytes)?;
-            places[place as usize] = Place::Ready(Worker {
+            let restored = Worker {
                 limits: worker.limits,
                 registers,
-            });
+            };
+            places[place as usize] = Place::Ready(restored);
             Ok(())
         }
     }
