@@ -4,33 +4,6 @@ use engine::{Refusal, State, Told};
 use std::test::Fail;
 use words::word_bits;
 
-// On a ready worker too. Nothing is cut.
-#[test]
-fn wide_numbers_are_refused(rt: HostRuntime) -> Result<(), Fail> {
-    for (a, q, p) in [
-        (1 << 30, 0, 0),
-        (0, 1 << 30, 0),
-        (0, 0, 1 << 17),
-        (4_294_967_295, 0, 0),
-        (0, 4_294_967_295, 0),
-        (0, 0, 4_294_967_295),
-        (1 << 31, 1 << 31, 1 << 31),
-        ((1 << 30) + 5, 5, 5),
-    ] {
-        for place in [1, 6] {
-            let mut scene = scene(&rt)?;
-            let answer = scene.answer(place, a, q, p);
-            assert_eq!(rt;
-                answer,
-                Err(Refusal::NumberTooWide),
-                "{a}, {q}, {p} at {place}"
-            );
-            unchanged(&rt, scene)?;
-        }
-    }
-    Ok(())
-}
-
 #[test]
 fn a_ready_worker_is_not_answered(rt: HostRuntime) -> Result<(), Fail> {
     for (a, q, p) in [

@@ -1,7 +1,5 @@
 // One program for two workers at different lower limits, over a word store and over an interleaved pair of parity stores.
-use super::bench::{
-    ADDING, LOWER_SPOILED, UPPER_SPOILED, executive, interrupted, over, spent, terms, told,
-};
+use super::bench::{ADDING, executive, interrupted, over, spent, terms, told};
 use engine::{Installation, Refusal, State};
 use pairs::{Pair, Rule};
 use processor::{Reference, ReferenceKind, RelativeAddress, Report};
@@ -76,21 +74,6 @@ fn two_workers<S: Store>(rt: &impl Abort, on: &mut Installation<S>) -> Result<()
     Ok(())
 }
 
-#[test]
-fn two_workers_over_a_word_store(rt: HostRuntime) -> Result<(), Fail> {
-    let mut installation = over(rt.alloc(), &[0; 24])?;
-    two_workers(&rt, &mut installation)?;
-    let [w0, w1, w2, w3, ..] = ADDING;
-    assert_eq!(rt;
-        installation.into_store().into_memory().as_slice(),
-        [
-            0, 0, 0, w0, w1, w2, w3, 0, 0, 0, 8, 0, 0, 0, w0, w1, w2, w3, 0, 0, 0, 8, 0, 0
-        ]
-        .as_slice()
-    );
-    Ok(())
-}
-
 // Even cells are the first store's and odd ones the second's: the cell 3 is number 1 of the second store, and 14 number 7 of the first.
 #[test]
 fn two_workers_over_a_pair(rt: HostRuntime) -> Result<(), Fail> {
@@ -145,19 +128,6 @@ fn spoiled_words<S: Store>(rt: &impl Abort, on: &mut Installation<S>) -> Result<
     Ok(())
 }
 
-#[test]
-fn spoiled_words_over_a_word_store(rt: HostRuntime) -> Result<(), Fail> {
-    let memory = [9, LOWER_SPOILED + ADDING[0], UPPER_SPOILED + ADDING[1], 9];
-    let mut installation = over(rt.alloc(), &memory)?;
-    spoiled_words(&rt, &mut installation)?;
-    let memory = [9, ADDING[3], UPPER_SPOILED + ADDING[1], 9];
-    assert_eq!(rt;
-        installation.into_store().into_memory().as_slice(),
-        memory.as_slice()
-    );
-    Ok(())
-}
-
 // The cell 1 is number 0 of the second store, and 2 number 1 of the first. 5 has two ones, and 16384 + 32768 too.
 #[test]
 fn spoiled_words_over_a_pair(rt: HostRuntime) -> Result<(), Fail> {
@@ -170,29 +140,6 @@ fn spoiled_words_over_a_pair(rt: HostRuntime) -> Result<(), Fail> {
     assert_eq!(rt;
         second.into_memory().as_slice(),
         [W3[0], W3[1], Z, Z].as_slice()
-    );
-    Ok(())
-}
-
-// Room is counted in the pair's cells: twice 4.
-#[test]
-fn a_pairs_cells_are_the_room(rt: HostRuntime) -> Result<(), Fail> {
-    let mut installation = Installation::new(pair(rt.alloc(), &[Z; 8], &[Z; 10])?);
-    assert_eq!(rt;
-        installation.admit(0, CellAddress(1), terms(8, 0)),
-        Err(Refusal::PastStore)
-    );
-    assert_eq!(rt;
-        installation.admit(0, CellAddress(8), terms(1, 0)),
-        Err(Refusal::PastStore)
-    );
-    assert_eq!(rt; installation.admit(0, CellAddress(1), terms(7, 0)), Ok(()));
-    assert_eq!(rt; installation.load(0, RelativeAddress(6), 8), Ok(()));
-    let Pair { first, second, .. } = installation.into_store();
-    assert_eq!(rt; first.into_memory().as_slice(), [Z; 8].as_slice());
-    assert_eq!(rt;
-        second.into_memory().as_slice(),
-        [Z, Z, Z, Z, Z, Z, Z, 8, Z, Z].as_slice()
     );
     Ok(())
 }

@@ -1,11 +1,8 @@
 // Load and look: refusals 8, 9 and 19.
-use super::bench::{
-    LOWER_SPOILED, MEMORY, UPPER_SPOILED, ends, over, scene, seen_first, terms, unchanged,
-};
+use super::bench::{MEMORY, ends, scene, seen_first, unchanged};
 use engine::Refusal;
 use processor::RelativeAddress;
 use std::test::Fail;
-use store::CellAddress;
 use store::Half::{Lower, Upper};
 use words::word_bits;
 
@@ -110,60 +107,5 @@ fn a_word_is_loaded(rt: HostRuntime) -> Result<(), Fail> {
     Ok(())
 }
 
-#[test]
-fn a_held_workers_word_is_loaded_and_mended(rt: HostRuntime) -> Result<(), Fail> {
-    for (address, cell) in [(0, 15), (1, 16), (2, 17), (3, 18), (5, 20)] {
-        let mut scene = scene(&rt)?;
-        assert_eq!(rt;
-            scene.load(6, RelativeAddress(address), 0o3000000003),
-            Ok(())
-        );
-        assert_eq!(rt;
-            scene.look(6, RelativeAddress(address)),
-            Ok(word_bits(0o3000000003))
-        );
-        let mut seen = seen_first();
-        seen.held_words[address as usize] = Ok(word_bits(0o3000000003));
-        let mut memory = MEMORY;
-        memory[cell] = 0o3000000003;
-        ends(&rt, scene, seen, &memory)?;
-    }
-    Ok(())
-}
-
 // Loads at two workers' own addresses reach two cells.
-#[test]
-fn the_same_address_is_another_cell_for_another(rt: HostRuntime) -> Result<(), Fail> {
-    let mut scene = scene(&rt)?;
-    assert_eq!(rt; scene.load(1, RelativeAddress(4), 7), Ok(()));
-    assert_eq!(rt; scene.load(6, RelativeAddress(4), 9), Ok(()));
-    let mut seen = seen_first();
-    seen.words[4] = Ok(word_bits(7));
-    seen.held_words[4] = Ok(word_bits(9));
-    let mut memory = MEMORY;
-    memory[8] = 7;
-    memory[19] = 9;
-    ends(&rt, scene, seen, &memory)
-}
-
 // The highest address of a store's last cell.
-#[test]
-fn the_last_cell_is_reached(rt: HostRuntime) -> Result<(), Fail> {
-    let mut installation = over(rt.alloc(), &[5, UPPER_SPOILED, LOWER_SPOILED + 6])?;
-    assert_eq!(rt; installation.admit(2, CellAddress(1), terms(2, 0)), Ok(()));
-    assert_eq!(rt;
-        installation.look(2, RelativeAddress(1)),
-        Err(Refusal::Spoiled(Lower))
-    );
-    assert_eq!(rt; installation.load(2, RelativeAddress(1), 8), Ok(()));
-    assert_eq!(rt; installation.look(2, RelativeAddress(1)), Ok(word_bits(8)));
-    assert_eq!(rt;
-        installation.look(2, RelativeAddress(2)),
-        Err(Refusal::AddressPastLength)
-    );
-    assert_eq!(rt;
-        installation.into_store().into_memory().as_slice(),
-        [5, UPPER_SPOILED, 8].as_slice()
-    );
-    Ok(())
-}

@@ -1,39 +1,12 @@
 // Retiring, the cells that stay, and the store that is given back.
 use super::bench::{
-    ADDING, AROUND, MEMORY, UPPER_SPOILED, ends, executive, interrupted, over, scene, seen_first,
-    span, terms, told,
+    ADDING, AROUND, MEMORY, UPPER_SPOILED, executive, interrupted, over, scene, span, terms, told,
 };
-use engine::{Refusal, State};
+use engine::State;
 use processor::RelativeAddress;
 use std::test::Fail;
 use store::CellAddress;
 use words::word_bits;
-
-#[test]
-fn a_ready_workers_place_is_freed(rt: HostRuntime) -> Result<(), Fail> {
-    let mut scene = scene(&rt)?;
-    assert_eq!(rt; scene.retire(1), Ok(()));
-    assert_eq!(rt; scene.retire(1), Err(Refusal::PlaceFree));
-    let free = Refusal::PlaceFree;
-    let mut seen = seen_first();
-    seen.told[1] = Err(free);
-    seen.spans[1] = Err(free);
-    seen.words = [Err(free); 8];
-    ends(&rt, scene, seen, &MEMORY)
-}
-
-#[test]
-fn a_held_workers_place_is_freed(rt: HostRuntime) -> Result<(), Fail> {
-    let mut scene = scene(&rt)?;
-    assert_eq!(rt; scene.retire(6), Ok(()));
-    assert_eq!(rt; scene.retire(6), Err(Refusal::PlaceFree));
-    let free = Refusal::PlaceFree;
-    let mut seen = seen_first();
-    seen.told[6] = Err(free);
-    seen.spans[6] = Err(free);
-    seen.held_words = [Err(free); 8];
-    ends(&rt, scene, seen, &MEMORY)
-}
 
 // The first has put 8 at its address 7, the cell 11; from 8 on that is address 3. Its registers and its report are gone.
 #[test]
@@ -59,26 +32,6 @@ fn the_next_worker_finds_what_the_last_one_left(rt: HostRuntime) -> Result<(), F
         scene.into_store().into_memory().as_slice(),
         memory.as_slice()
     );
-    Ok(())
-}
-
-// A place that was retired counts no more, and the cells are had from another place as well.
-#[test]
-fn retired_cells_are_free(rt: HostRuntime) -> Result<(), Fail> {
-    let mut scene = scene(&rt)?;
-    assert_eq!(rt;
-        scene.admit(2, CellAddress(11), terms(4, 0)),
-        Err(Refusal::CellShared)
-    );
-    assert_eq!(rt; scene.retire(1), Ok(()));
-    assert_eq!(rt; scene.admit(2, CellAddress(11), terms(4, 0)), Ok(()));
-    assert_eq!(rt;
-        scene.admit(1, CellAddress(4), terms(8, 0)),
-        Err(Refusal::CellShared)
-    );
-    assert_eq!(rt; scene.admit(1, CellAddress(4), terms(7, 0)), Ok(()));
-    assert_eq!(rt; scene.span(2), Ok(span(11, 4)));
-    assert_eq!(rt; scene.span(1), Ok(span(4, 7)));
     Ok(())
 }
 
