@@ -1,5 +1,5 @@
 // Admitting: refusals 4 to 7, and what a new worker is.
-use super::bench::{AROUND, MEMORY, ends, over, scene, seen_first, span, terms, told, unchanged};
+use super::bench::{MEMORY, ends, scene, seen_first, span, terms, told, unchanged};
 use engine::{Refusal, State};
 use std::test::Fail;
 use store::CellAddress;
@@ -30,53 +30,7 @@ fn lengths_are_1_to_32768(rt: HostRuntime) -> Result<(), Fail> {
     Ok(())
 }
 
-#[test]
-fn room_ends_with_the_store(rt: HostRuntime) -> Result<(), Fail> {
-    for (lower, length, answer) in [
-        (60, 4, Ok(())),
-        (60, 5, Err(Refusal::PastStore)),
-        (63, 1, Ok(())),
-        (63, 2, Err(Refusal::PastStore)),
-        (64, 1, Err(Refusal::PastStore)),
-        (0, 64, Ok(())),
-        (0, 65, Err(Refusal::PastStore)),
-        (1, 64, Err(Refusal::PastStore)),
-    ] {
-        let mut installation = over(rt.alloc(), &[AROUND; 64])?;
-        let found = installation.admit(0, CellAddress(lower), terms(length, 0));
-        assert_eq!(rt; found, answer, "from {lower} on, {length}");
-    }
-    Ok(())
-}
-
 // No sum is lost to a width.
-#[test]
-fn large_lower_limits_are_past_the_store(rt: HostRuntime) -> Result<(), Fail> {
-    for (lower, length) in [
-        (4_294_967_295, 1),
-        (4_294_967_295, 2),
-        (4_294_967_295, 3),
-        (4_294_967_294, 2),
-        (4_294_934_528, 32_768),
-        (2_147_483_648, 1),
-        (131_072, 1),
-        (131_071, 1),
-        (32, 1),
-    ] {
-        for entry in [0, length] {
-            let mut scene = scene(&rt)?;
-            let answer = scene.admit(0, CellAddress(lower), terms(length, entry));
-            assert_eq!(rt;
-                answer,
-                Err(Refusal::PastStore),
-                "from {lower} on, {length}"
-            );
-            unchanged(&rt, scene)?;
-        }
-    }
-    Ok(())
-}
-
 #[test]
 fn spans_that_touch_share_nothing(rt: HostRuntime) -> Result<(), Fail> {
     for (lower, length) in [(0, 4), (3, 1), (12, 3), (12, 1), (14, 1), (21, 11), (21, 1)] {
@@ -87,21 +41,6 @@ fn spans_that_touch_share_nothing(rt: HostRuntime) -> Result<(), Fail> {
         seen.told[3] = Ok(told(State::Ready, 0, 0, length - 1));
         seen.spans[3] = Ok(span(lower, length));
         ends(&rt, scene, seen, &MEMORY)?;
-    }
-    Ok(())
-}
-
-#[test]
-fn the_entry_is_below_the_length(rt: HostRuntime) -> Result<(), Fail> {
-    for (length, entry) in [(1, 1), (4, 4), (4, 5), (4, 131_072), (4, 4_294_967_295)] {
-        let mut scene = scene(&rt)?;
-        let answer = scene.admit(0, CellAddress(21), terms(length, entry));
-        assert_eq!(rt;
-            answer,
-            Err(Refusal::EntryPastLength),
-            "{length} and {entry}"
-        );
-        unchanged(&rt, scene)?;
     }
     Ok(())
 }

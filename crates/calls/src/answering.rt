@@ -1,26 +1,8 @@
 // Answer: refusals 9 and 12, and what it sets.
-use super::bench::{MEMORY, ends, recorded, scene, seen_first, unchanged};
+use super::bench::{MEMORY, ends, recorded, scene, seen_first};
 use engine::{Refusal, State, Told};
 use std::test::Fail;
 use words::word_bits;
-
-#[test]
-fn a_ready_worker_is_not_answered(rt: HostRuntime) -> Result<(), Fail> {
-    for (a, q, p) in [
-        (0, 0, 0),
-        (1, 2, 3),
-        ((1 << 30) - 1, (1 << 30) - 1, 131_071),
-    ] {
-        let mut scene = scene(&rt)?;
-        assert_eq!(rt;
-            scene.answer(1, a, q, p),
-            Err(Refusal::WorkerNotHeld),
-            "{a}, {q}, {p}"
-        );
-        unchanged(&rt, scene)?;
-    }
-    Ok(())
-}
 
 // B1 to B7 stay, and the report is dropped.
 #[test]

@@ -1,5 +1,5 @@
 // Fixed addresses, and refusal 14.
-use engine::{Refusal, fixed_address};
+use engine::fixed_address;
 use std::test::Fail;
 use store::CellAddress;
 
@@ -25,27 +25,6 @@ fn each_cause_has_its_address(rt: HostRuntime) -> Result<(), Fail> {
     ] {
         let found = fixed_address(cause, CellAddress(cell));
         assert_eq!(rt; found, Ok(CellAddress(address)), "{cause} at {cell}");
-    }
-    Ok(())
-}
-
-// The cell address counts for every cause here.
-#[test]
-fn other_causes_and_cells_have_none(rt: HostRuntime) -> Result<(), Fail> {
-    for (cause, cell) in [
-        (0, 0),
-        (6, 0),
-        (7, 32_768),
-        (4_294_967_295, 0),
-        (0, 131_072),
-        (1, 131_072),
-        (2, 131_072),
-        (3, 131_072),
-        (4, 131_073),
-        (5, 4_294_967_295),
-    ] {
-        let found = fixed_address(cause, CellAddress(cell));
-        assert_eq!(rt; found, Err(Refusal::NoFixedAddress), "{cause} at {cell}");
     }
     Ok(())
 }

@@ -127,19 +127,3 @@ fn spoiled_words<S: Store>(rt: &impl Abort, on: &mut Installation<S>) -> Result<
     assert_eq!(rt; on.retire(2), Ok(()));
     Ok(())
 }
-
-// The cell 1 is number 0 of the second store, and 2 number 1 of the first. 5 has two ones, and 16384 + 32768 too.
-#[test]
-fn spoiled_words_over_a_pair(rt: HostRuntime) -> Result<(), Fail> {
-    let even = [Z, Z, 0o40000 + 0x8000, Z];
-    let odd = [Z, 5, Z, Z];
-    let mut installation = Installation::new(pair(rt.alloc(), &even, &odd)?);
-    spoiled_words(&rt, &mut installation)?;
-    let Pair { first, second, .. } = installation.into_store();
-    assert_eq!(rt; first.into_memory().as_slice(), even.as_slice());
-    assert_eq!(rt;
-        second.into_memory().as_slice(),
-        [W3[0], W3[1], Z, Z].as_slice()
-    );
-    Ok(())
-}

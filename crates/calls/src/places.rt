@@ -45,42 +45,4 @@ fn no_place_is_above_7(rt: HostRuntime) -> Result<(), Fail> {
     Ok(())
 }
 
-// Whatever else is wrong, if only the place is one.
-#[test]
-fn a_free_place_has_no_worker(rt: HostRuntime) -> Result<(), Fail> {
-    for place in [0, 2, 3, 4, 5, 7] {
-        let mut scene = scene(&rt)?;
-        let free = Refusal::PlaceFree;
-        assert_eq!(rt;
-            scene.load(place, RelativeAddress(99), 1 << 30),
-            Err(free),
-            "at {place}"
-        );
-        assert_eq!(rt;
-            scene.look(place, RelativeAddress(0)),
-            Err(free),
-            "at {place}"
-        );
-        assert_eq!(rt;
-            scene.look(place, RelativeAddress(99)),
-            Err(free),
-            "at {place}"
-        );
-        assert_eq!(rt; scene.run(place, 1_000_001), Err(free), "at {place}");
-        assert_eq!(rt; scene.run(place, 0), Err(free), "at {place}");
-        assert_eq!(rt; scene.answer(place, 0, 0, 1 << 17), Err(free), "at {place}");
-        assert_eq!(rt; scene.answer(place, 0, 0, 0), Err(free), "at {place}");
-        let mut buffer = [0xaa; 30];
-        assert_eq!(rt; scene.save(place, &mut buffer), Err(free), "at {place}");
-        assert_eq!(rt; buffer, [0xaa; 30]);
-        assert_eq!(rt; scene.save(place, &mut []), Err(free), "at {place}");
-        assert_eq!(rt; scene.restore(place, &[0xff; 29]), Err(free), "at {place}");
-        assert_eq!(rt; scene.tell(place), Err(free), "at {place}");
-        assert_eq!(rt; scene.retire(place), Err(free), "at {place}");
-        assert_eq!(rt; scene.span(place), Err(free), "at {place}");
-        unchanged(&rt, scene)?;
-    }
-    Ok(())
-}
-
 // Tell, look and span change nothing on a ready worker or on a held one.

@@ -1,7 +1,5 @@
 // Run: refusals 10 and 11, budgets, and what comes of a run.
-use super::bench::{
-    MEMORY, ends, executive, interrupted, scene, seen_first, spent, told, unchanged,
-};
+use super::bench::{MEMORY, ends, executive, interrupted, scene, seen_first, told, unchanged};
 use engine::{Refusal, State};
 use processor::{RelativeAddress, Report};
 use std::test::Fail;
@@ -15,13 +13,6 @@ fn a_held_worker_does_not_run(rt: HostRuntime) -> Result<(), Fail> {
         unchanged(&rt, scene)?;
     }
     Ok(())
-}
-
-#[test]
-fn with_budget_0_nothing_is_done(rt: HostRuntime) -> Result<(), Fail> {
-    let mut scene = scene(&rt)?;
-    assert_eq!(rt; scene.run(1, 0), Ok(spent(0)));
-    unchanged(&rt, scene)
 }
 
 // A worker that spends its budget stays ready and goes on where it was.

@@ -15,35 +15,6 @@ fn changed(at: usize, byte: u8) -> [u8; 29] {
     bytes
 }
 
-// On a ready worker and a held one.
-#[test]
-fn short_buffers_stay(rt: HostRuntime) -> Result<(), Fail> {
-    for place in [1, 6] {
-        let scene = scene(&rt)?;
-        let mut buffer = [0xaa; 28];
-        assert_eq!(rt;
-            scene.save(place, &mut buffer),
-            Err(Refusal::ShortBuffer),
-            "at {place}"
-        );
-        assert_eq!(rt; buffer, [0xaa; 28]);
-        let mut buffer = [0xaa; 1];
-        assert_eq!(rt;
-            scene.save(place, &mut buffer),
-            Err(Refusal::ShortBuffer),
-            "at {place}"
-        );
-        assert_eq!(rt; buffer, [0xaa; 1]);
-        assert_eq!(rt;
-            scene.save(place, &mut []),
-            Err(Refusal::ShortBuffer),
-            "at {place}"
-        );
-        unchanged(&rt, scene)?;
-    }
-    Ok(())
-}
-
 // A new worker with entry 5.
 #[test]
 fn bytes_after_a_record_stay(rt: HostRuntime) -> Result<(), Fail> {
