@@ -1,12 +1,12 @@
 // One program for two workers at different lower limits, over a word store and over an interleaved pair of parity stores.
 use super::bench::{ADDING, executive, interrupted, over, spent, terms, told};
-use engine::{Installation, Refusal, State};
+use engine::{Installation, State};
 use pairs::{Pair, Rule};
-use processor::{Reference, ReferenceKind, RelativeAddress, Report};
+use processor::RelativeAddress;
 use std::alloc::Global;
 use std::process::Abort;
 use std::test::Fail;
-use store::{CellAddress, Fault, Half, Store};
+use store::{CellAddress, Store};
 use stores::ParityStore;
 use words::word_bits;
 
@@ -95,35 +95,5 @@ fn two_workers_over_a_pair(rt: HostRuntime) -> Result<(), Fail> {
     odd[16..18].copy_from_slice(&W3);
     odd[20..22].copy_from_slice(&EIGHT);
     assert_eq!(rt; second.into_memory().as_slice(), odd.as_slice());
-    Ok(())
-}
-
-// The word at 0 has a spoiled lower half and the word at 1 a spoiled upper one.
-fn spoiled_words<S: Store>(rt: &impl Abort, on: &mut Installation<S>) -> Result<(), Fail> {
-    assert_eq!(rt; on.admit(2, CellAddress(1), terms(2, 0)), Ok(()));
-    assert_eq!(rt;
-        on.look(2, RelativeAddress(0)),
-        Err(Refusal::Spoiled(Half::Lower))
-    );
-    assert_eq!(rt;
-        on.look(2, RelativeAddress(1)),
-        Err(Refusal::Spoiled(Half::Upper))
-    );
-    assert_eq!(rt;
-        on.look(2, RelativeAddress(2)),
-        Err(Refusal::AddressPastLength)
-    );
-    let at = Reference {
-        kind: ReferenceKind::Fetch,
-        address: RelativeAddress(0),
-    };
-    let report = Report::Parity(at, Fault::Spoiled(Half::Lower));
-    assert_eq!(rt; on.run(2, 10), Ok(interrupted(1, report)));
-    assert_eq!(rt; on.tell(2), Ok(told(State::Held(report), 0, 0, 0)));
-    assert_eq!(rt; on.load(2, RelativeAddress(0), ADDING[3]), Ok(()));
-    assert_eq!(rt; on.answer(2, 1, 2, 0), Ok(()));
-    assert_eq!(rt; on.run(2, 10), Ok(interrupted(1, executive(10))));
-    assert_eq!(rt; on.tell(2), Ok(told(State::Held(executive(10)), 1, 2, 1)));
-    assert_eq!(rt; on.retire(2), Ok(()));
     Ok(())
 }
