@@ -45,7 +45,7 @@ same_taken row new place h same held =
     ∙ ap (all_reworded new) held
     ∙ ap (λ words. Ok (record { limits = h.limits; own = record { state = h.own.state; registers = h.own.registers; words = words } })) same
 
--- the words of a limits stay where those of another are put with which it shares no cell
+-- the words between limits stay where those of another are put with which it shares no cell
 apart_words : (row : List Cell) (s t : Limits) (words : List Cell) → s.lower + s.length ≤ length row → length words ≡ s.length → share t s ≡ false → words_in (row_with row s.lower s.length words) t.lower t.length ≡ words_in row t.lower t.length
 apart_words row s t words inside as_many apart =
     let sides : (s.lower + s.length ≤ t.lower) ⊎ (t.lower + t.length ≤ s.lower) = grind (arith, cases_lt, and_cases, apart) in

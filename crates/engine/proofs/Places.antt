@@ -24,7 +24,7 @@ module _ (places : List Place) (p : ℕ) (place : Place) where
   pub set_there : (q : ℕ) → q ≢ p → place_at (slice_set places p place) q ≡ place_at places q
   set_there q other = get_or-set_other places p q place Free other
 
-  -- a limits afterwards is that of the place that was set, or one that was there
+  -- the limits at a place afterwards are those of the place that was set, or those that were there
   pub limits_then : (q : ℕ) (s : Limits) → p < length places → limits_at (slice_set places p place) q ≡ Some s → ((q ≡ p) × (limits_in (worker_of place) ≡ Some s)) ⊎ ((q ≢ p) × (limits_at places q ≡ Some s))
   limits_then q s within then = ⊎_elim
       (λ here. inl (here, ap (λ x. limits_in (worker_of x)) (sym (set_here within)) ∙ ap (limits_at (slice_set places p place)) (sym here) ∙ then))

@@ -20,7 +20,7 @@ with_fewer i j sound eight long fewer = record {
   apart = λ p q s t other at_p at_q. sound.apart p q s t other (fewer p s at_p) (fewer q t at_q);
 }
 
--- from the making, where no place has a limits
+-- from the making, where no place has limits
 no_limits : (p : ℕ) (s : Limits) → limits_at (replicate 8 Free) p ≡ Some s → ⊥
 no_limits p s at = let none : None ≡ Some s = sym (ap (λ x. limits_in (worker_of x)) (free_at 8 p)) ∙ at in cc
 
