@@ -9,7 +9,7 @@ use words::Word;
 
 // Not a general `Either`: the names of the variants say what the store is over.
 #[derive(Drop)]
-pub(crate) enum AnyStore {
+pub enum AnyStore {
     Single(Bank),
     Pair(pairs::Pair<Bank, Bank>),
 }

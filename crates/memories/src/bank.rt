@@ -15,7 +15,7 @@ pub struct OutOfRange;
 
 // Not a general `Either`: the names of the variants say of which kind the memory is.
 #[derive(Drop)]
-pub(crate) enum Bank {
+pub enum Bank {
     Word(WordStore),
     Parity(ParityStore),
 }

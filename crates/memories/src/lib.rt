@@ -6,7 +6,8 @@ mod bank;
 mod layout;
 mod setup;
 
-pub use bank::OutOfRange;
+pub use any::AnyStore;
+pub use bank::{Bank, OutOfRange};
 pub use layout::{Kind, Layout, Part};
 pub use pairs::{Rule, Side};
 pub use setup::Setup;

@@ -1,9 +1,7 @@
 // What was made by a layout: a store over one memory or two, which can be damaged number by number.
 ghost use Rattle.std.specs.Prelude.{◌≡◌, is_ok, IfOk, if◌then◌else◌};
 ghost use Rattle.store.specs.Operations.{replied, left};
-ghost use Rattle.memories.specs.Any.{changed, row_of};
-ghost use Rattle.memories.specs.Bank.{memory_with_word, memory_with_half};
-ghost use Rattle.memories.specs.Laws.{memories_bounded, memories_ranged};
+ghost use Rattle.memories.specs.Any.{memories_of, row_of};
 ghost use Rattle.memories.specs.Setup.{new_memories, left_in, can_damage, damaged};
 
 use crate::any::AnyStore;
@@ -12,8 +10,7 @@ use crate::layout::Layout;
 use pairs::{Pair, Side};
 use std::alloc::{AllocError, Global};
 use std::marker::Model;
-use store::{CellAddress, Fault, Half, Operation, Reply, Store, perform};
-use words::Word;
+use store::{Operation, Reply, perform};
 
 #[derive(Drop)]
 pub struct Setup {
@@ -48,6 +45,14 @@ impl Setup {
         Ok(Setup { store })
     }
 
+    // The store itself.
+    pub fn into_store(self) -> AnyStore
+        ensures { memories_of result ≡ self }
+    {
+        let Setup { store } = self;
+        store
+    }
+
     // Does a function of the store.
     pub fn perform(&mut self, operation: Operation) -> Reply
         ensures answer { result ≡ replied (row_of self.old) operation }
@@ -68,34 +73,5 @@ impl Setup {
             (AnyStore::Pair(pair), Side::First) => pair.first.replace_number(index, value),
             (AnyStore::Pair(pair), Side::Second) => pair.second.replace_number(index, value),
         }
-    }
-}
-
-// It is itself a store, which means the row of its memories.
-impl Store for Setup {
-    ghost cells = { row_of };
-
-    ghost puts_whole = { λ before a w after. after ≡ changed before a (memory_with_word w) };
-
-    ghost puts_half = { λ before a h v after. after ≡ changed before a (memory_with_half h v) };
-
-    ghost bounded = { memories_bounded };
-
-    ghost ranged = { memories_ranged };
-
-    fn count(&self) -> u32 {
-        self.store.count()
-    }
-
-    fn fetch(&self, address: CellAddress) -> Result<Word, Fault> {
-        self.store.fetch(address)
-    }
-
-    fn put_whole(&mut self, address: CellAddress, word: u32) -> Result<(), Fault> {
-        self.store.put_whole(address, word)
-    }
-
-    fn put_half(&mut self, address: CellAddress, half: Half, value: u32) -> Result<(), Fault> {
-        self.store.put_half(address, half, value)
     }
 }

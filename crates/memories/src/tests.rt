@@ -93,6 +93,37 @@ fn a_list_is_played_in_order(rt: HostRuntime) -> Result<(), Fail> {
     Ok(())
 }
 
+// No contract says that there is memory for as many answers.
+#[test]
+fn a_long_list_is_played(rt: HostRuntime) -> Result<(), Fail> {
+    let heap = rt.alloc();
+    let operations = vec![in heap; Operation::Count; 1_000]?;
+    let mut pairs = nested(heap)?;
+    let answers = play(heap, &mut pairs, operations.as_slice())?;
+    assert_eq!(rt; answers.len(), 1_000);
+    assert_eq!(rt; answers.last().copied(), Some(Reply::Counted(6)));
+    Ok(())
+}
+
+// Nor for memories of the largest size that a script can ask for.
+#[test]
+fn the_largest_memories_are_made(rt: HostRuntime) -> Result<(), Fail> {
+    for first in [Kind::Word, Kind::Parity] {
+        for second in [Kind::Word, Kind::Parity] {
+            let size = 262_144;
+            let layout = Layout::Pair {
+                rule: Rule::Interleaved,
+                first: Part { kind: first, size },
+                second: Part { kind: second, size },
+            };
+            let mut setup = Setup::new(rt.alloc(), layout)?;
+            let count = setup.perform(Operation::Count);
+            assert_eq!(rt; count, Reply::Counted(131_072));
+        }
+    }
+    Ok(())
+}
+
 // A word memory of two cells, and a parity memory of two cells after it.
 const LAYOUT: Layout = Layout::Pair {
     rule: Rule::Continuous,

@@ -23,7 +23,7 @@ use Rattle.processor.specs.declared.effect.Next.{Next}
 use Rattle.processor.specs.declared.effect.Next.TheVariants.{Onward, Skipping, Jumping}
 use Rattle.processor.specs.Effects.{Effect, skip_if}
 use Rattle.processor.specs.Executive.{test_and_set}
-use Rattle.processor.specs.declared.fields.Fields.{Fields}
+use Rattle.processor.specs.Fields.{Fields}
 use Rattle.processor.specs.Jumps.{target, jump, return_jump, skip_on_b, jump_on_b}
 use Rattle.processor.specs.Machine.{Machine}
 use Rattle.processor.specs.Operands.{effective, further, operand}

@@ -1,5 +1,5 @@
 -- A step and a run leave registers that fit.
-use Rattle.std.proofs.Common.{ℕ, zero, suc, subst, ap, ◌≡◌, ◌%◌, ◌^◌, ◌<◌, ◌≤◌, nat_lt, arith, Result, Ok, Err}
+use Rattle.std.proofs.Common.{ℕ, zero, suc, subst, ap, refl, ◌≡◌, ◌%◌, ◌^◌, ◌<◌, ◌≤◌, nat_lt, arith, Result, Ok, Err}
 use Rattle.std.proofs.lemmas.Bool.{cond_both, ltb-true}
 use Rattle.records.specs.Registers.{Fits, with_p}
 use Rattle.processor.specs.declared.report.ReferenceKind.{ReferenceKind}
@@ -13,7 +13,7 @@ use Rattle.processor.specs.Fields.{fields_of}
 use Rattle.processor.specs.Machine.{Machine}
 use Rattle.processor.specs.Reports.{p_after, p_after_protection}
 use Rattle.processor.specs.Run.{Outcome, run, run_on}
-use Rattle.processor.specs.Step.{Stepped, completed, interrupted, instruction_effect, machine_after, step, stepped, tried}
+use Rattle.processor.specs.Step.{Stepped, answer_of, completed, interrupted, instruction_effect, machine_after, step, stepped, tried}
 use Rattle.processor.specs.Then.{◌>>=◌}
 use Rattle.processor.proofs.Chosen.{then_all, then_any}
 use Rattle.processor.proofs.EffectsFit.{Near, EffectFits, ResultFits, instruction_fits}
@@ -83,14 +83,14 @@ module _ (m : Machine) (short : m.length ≤ 32768) (fits : Fits m.registers) wh
   unfolding step
   fit_by r is = subst (λ r. Fits (machine_after (stepped m r)).registers) is step_registers_fit
 
-  -- so the registers after a step are these, with P in 17 bits
-  pub registers_if_completed : (e : Effect) → tried m ≡ Ok e → with_p e.registers (next_p e.next m.registers.p % 2 ^ 17) ≡ (machine_after (step m)).registers
-  unfolding step
-  registers_if_completed e is = rw is (ap (with_p e.registers) (omega (arith, (fit_by (Ok e) is).4)))
+  -- so the registers after a step that is interrupted are those from before it, with P in 17 bits
+  interrupted_by : (report : Report) (r : Result Effect Report) → tried m ≡ r → Err report ≡ answer_of (stepped m r) → with_p m.registers (p_after report m.registers.p % 2 ^ 17) ≡ (machine_after (stepped m r)).registers
+  interrupted_by report (Ok e) is answers = let no : ⊥ = cc in absurd no
+  interrupted_by report (Err other) is answers = let same : report ≡ other = cc in rw same (ap (with_p m.registers) (omega (arith, (fit_by (Err other) is).4)))
 
-  pub registers_if_interrupted : (report : Report) → tried m ≡ Err report → with_p m.registers (p_after report m.registers.p % 2 ^ 17) ≡ (machine_after (step m)).registers
+  pub registers_if_interrupted : (report : Report) → Err report ≡ answer_of (step m) → with_p m.registers (p_after report m.registers.p % 2 ^ 17) ≡ (machine_after (step m)).registers
   unfolding step
-  registers_if_interrupted report is = rw is (ap (with_p m.registers) (omega (arith, (fit_by (Err report) is).4)))
+  registers_if_interrupted report = interrupted_by report (tried m) refl
 
 run_on_fits : (s : Stepped) (rest : Machine → Outcome) → ((n : Machine) → MachineFits n → Fits (rest n).machine.registers) → StepFits s → Fits (run_on s rest).machine.registers
 run_on_fits (completed after) rest all sound = all after sound

@@ -8,7 +8,7 @@ use Rattle.words.proofs.Widths.{joined_fit, extended_fit}
 use Rattle.records.specs.Registers.{Fits}
 use Rattle.processor.specs.declared.report.Reference.{Reference}
 use Rattle.processor.specs.declared.report.Report.{Report}
-use Rattle.processor.specs.declared.fields.Fields.{Fields}
+use Rattle.processor.specs.Fields.{Fields}
 use Rattle.processor.specs.Machine.{Machine}
 use Rattle.processor.specs.Operands.{effective, lower_read, upper_read, extension, operand}
 use Rattle.processor.specs.References.{read, parity_tried}

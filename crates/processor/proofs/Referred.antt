@@ -12,7 +12,7 @@ use Rattle.processor.specs.declared.report.Report.{Report}
 use Rattle.processor.specs.declared.effect.Put.{Put}
 use Rattle.processor.specs.declared.effect.Put.TheVariants as put
 use Rattle.processor.specs.Effects.{put_tried, puts_tried}
-use Rattle.processor.specs.declared.fields.Fields.{Fields}
+use Rattle.processor.specs.Fields.{Fields}
 use Rattle.processor.specs.Machine.{Machine}
 use Rattle.processor.specs.Operands.{effective, lower_read, upper_read, extension, operand}
 use Rattle.processor.specs.References.{fetch, parity_tried, read, refer}

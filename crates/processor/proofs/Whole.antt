@@ -6,8 +6,7 @@ use Rattle.processor.specs.declared.operation.Operation.{Operation}
 use Rattle.processor.specs.declared.operation.Operation.TheVariants as op
 use Rattle.processor.specs.declared.report.Report.{Report}
 use Rattle.processor.specs.Effects.{Effect, puts_tried}
-use Rattle.processor.specs.declared.fields.Fields.{Fields}
-use Rattle.processor.specs.Fields.{fields_of}
+use Rattle.processor.specs.Fields.{Fields, fields_of}
 use Rattle.processor.specs.Jumps.{target}
 use Rattle.processor.specs.Machine.{Machine}
 use Rattle.processor.specs.Operands.{effective, operand}

@@ -6,7 +6,7 @@ use Rattle.words.specs.Order.{less}
 use Rattle.words.specs.Sums.{difference}
 use Rattle.processor.specs.declared.report.Report.{Report}
 use Rattle.processor.specs.Effects.{Effect, leaving, skip_if}
-use Rattle.processor.specs.declared.fields.Fields.{Fields}
+use Rattle.processor.specs.Fields.{Fields}
 use Rattle.processor.specs.Machine.{Machine}
 use Rattle.processor.specs.Operands.{effective, further, operand}
 use Rattle.processor.specs.References.{read}

@@ -7,7 +7,7 @@ use Rattle.processor.specs.declared.operation.Computation.{Computation}
 use Rattle.processor.specs.declared.operation.Computation.TheVariants as computation
 use Rattle.processor.specs.declared.report.Report.{Report}
 use Rattle.processor.specs.Effects.{Effect, leaving, skip_if, stored}
-use Rattle.processor.specs.declared.fields.Fields.{Fields}
+use Rattle.processor.specs.Fields.{Fields}
 use Rattle.processor.specs.Machine.{Machine}
 use Rattle.processor.specs.Operands.{effective, operand}
 use Rattle.processor.specs.Skips.{computed_skip_met}

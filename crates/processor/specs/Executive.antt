@@ -7,7 +7,7 @@ use Rattle.processor.specs.declared.report.Report.{Report}
 use Rattle.processor.specs.declared.report.Report.TheVariants.{ExecutiveReturn, TestAndSet}
 use Rattle.processor.specs.declared.effect.Next.TheVariants.{Onward}
 use Rattle.processor.specs.Effects.{Effect, half}
-use Rattle.processor.specs.declared.fields.Fields.{Fields}
+use Rattle.processor.specs.Fields.{Fields}
 use Rattle.processor.specs.Machine.{Machine}
 use Rattle.processor.specs.Operands.{effective}
 use Rattle.processor.specs.References.{read}

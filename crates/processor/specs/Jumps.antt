@@ -5,7 +5,7 @@ use Rattle.records.specs.Registers.{Registers, index, with_index}
 use Rattle.processor.specs.declared.report.Report.{Report}
 use Rattle.processor.specs.declared.effect.Next.TheVariants.{Onward, Skipping, Jumping}
 use Rattle.processor.specs.Effects.{Effect, half, leaving}
-use Rattle.processor.specs.declared.fields.Fields.{Fields}
+use Rattle.processor.specs.Fields.{Fields}
 use Rattle.processor.specs.Machine.{Machine}
 use Rattle.processor.specs.Operands.{operand}
 use Rattle.processor.specs.Skips.{skip_met}

@@ -5,7 +5,7 @@ use Rattle.words.specs.Extension.{extended}
 use Rattle.records.specs.Registers.{Registers, index}
 use Rattle.processor.specs.declared.report.Report.{Report}
 use Rattle.processor.specs.Digits.{by_digit}
-use Rattle.processor.specs.declared.fields.Fields.{Fields}
+use Rattle.processor.specs.Fields.{Fields}
 use Rattle.processor.specs.Machine.{Machine}
 use Rattle.processor.specs.References.{read}
 use Rattle.processor.specs.Then.{◌>>=◌}
@@ -33,6 +33,9 @@ abbrev pub extension : Result ℕ Report → Result ℕ Report
 extension half = do
   x ← half
   Ok (extended 15 x)
+
+abbrev pub picked : ℕ → ℕ → ℕ
+picked k w = by_digit k w (lower_half w) (upper_half w) w w (extended 15 (lower_half w)) (extended 15 (upper_half w)) w
 
 -- Y by k: ȳ itself; the lower half, the upper half of the word at ȳ; that word; the first three again with bit 14 copied upwards; A
 abbrev pub operand : Machine → Fields → Result ℕ Report

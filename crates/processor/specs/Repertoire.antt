@@ -5,8 +5,7 @@ use Rattle.processor.specs.declared.operation.Operation.TheVariants as op
 use Rattle.processor.specs.declared.operation.Computation.{Computation}
 use Rattle.processor.specs.declared.operation.Computation.TheVariants as computation
 use Rattle.processor.specs.declared.operation.Shifted.TheVariants.{A, Q, Aq}
-use Rattle.processor.specs.declared.fields.Fields.{Fields}
-use Rattle.processor.specs.Fields.{g}
+use Rattle.processor.specs.Fields.{Fields, g}
 
 -- a line of the repertoire: a code in octal, and its operation
 pub record Line : Type 0 where

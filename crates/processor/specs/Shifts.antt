@@ -12,7 +12,7 @@ use Rattle.processor.specs.declared.report.Report.{Report}
 use Rattle.processor.specs.declared.report.Report.TheVariants.{IllegalInstruction}
 use Rattle.processor.specs.declared.effect.Next.TheVariants.{Onward}
 use Rattle.processor.specs.Effects.{Effect, skip_if, leaving}
-use Rattle.processor.specs.declared.fields.Fields.{Fields}
+use Rattle.processor.specs.Fields.{Fields}
 use Rattle.processor.specs.Machine.{Machine}
 use Rattle.processor.specs.Operands.{effective, operand}
 use Rattle.processor.specs.Reports.{relative}

@@ -9,8 +9,7 @@ use Rattle.processor.specs.Comparisons as comparisons
 use Rattle.processor.specs.Computations.{compute, replace}
 use Rattle.processor.specs.Effects.{Effect, next_p, puts_tried, puts_done}
 use Rattle.processor.specs.Executive as executive
-use Rattle.processor.specs.declared.fields.Fields.{Fields}
-use Rattle.processor.specs.Fields.{fields_of}
+use Rattle.processor.specs.Fields.{Fields, fields_of}
 use Rattle.processor.specs.Jumps as jumps
 use Rattle.processor.specs.Machine.{Machine}
 use Rattle.processor.specs.References.{fetch}

@@ -10,7 +10,7 @@ use Rattle.processor.specs.Digits.{by_digit}
 use Rattle.processor.specs.declared.effect.Next.TheVariants.{Onward}
 use Rattle.processor.specs.declared.effect.Put.{Put}
 use Rattle.processor.specs.Effects.{Effect, whole, skip_if, leaving, stored}
-use Rattle.processor.specs.declared.fields.Fields.{Fields}
+use Rattle.processor.specs.Fields.{Fields}
 use Rattle.processor.specs.Machine.{Machine}
 use Rattle.processor.specs.Operands.{effective, further, operand}
 use Rattle.processor.specs.References.{read}

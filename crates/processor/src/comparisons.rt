@@ -7,7 +7,7 @@ ghost use Rattle.processor.specs.Results.{effected};
 
 use super::Report;
 use super::effect::{Next, Pending};
-use super::fields::Fields;
+use super::fields::Instruction;
 use super::references::Words;
 use super::skips::skip_met;
 use records::Registers;
@@ -18,21 +18,21 @@ use words::DoubleWord;
 pub(crate) fn compare_masked<S: Store>(
     words: &Words<'_, S>,
     registers: &Registers,
-    i: &Fields,
+    i: &Instruction,
 ) -> Result<Pending, Report>
     ensures { effected registers.now result ≡ compare_masked (machine_in (S.cells words.now.store.now) words.now.limits registers.now) i.now }
 {
     let y = words.operand(registers, i)?;
     let q = registers.q();
     let difference = registers.a().difference(y.product(q));
-    Ok(Pending::only(Next::skip_if(skip_met(i.j, difference, q))))
+    Ok(Pending::only(Next::skip_if(skip_met(i.j(), difference, q))))
 }
 
 // The words at ȳ and after it as one of 60 bits.
 fn read_double<S: Store>(
     words: &Words<'_, S>,
     registers: &Registers,
-    i: &Fields,
+    i: &Instruction,
 ) -> Result<DoubleWord, Report>
     ensures { result ≡ double_read (machine_in (S.cells words.now.store.now) words.now.limits registers.now) i.now }
 {
@@ -52,7 +52,7 @@ fn aq(registers: &Registers) -> DoubleWord
 pub(crate) fn compare_aq_equal<S: Store>(
     words: &Words<'_, S>,
     registers: &Registers,
-    i: &Fields,
+    i: &Instruction,
 ) -> Result<Pending, Report>
     ensures { effected registers.now result ≡ compare_aq_equal (machine_in (S.cells words.now.store.now) words.now.limits registers.now) i.now }
 {
@@ -65,7 +65,7 @@ pub(crate) fn compare_aq_equal<S: Store>(
 pub(crate) fn compare_aq_less<S: Store>(
     words: &Words<'_, S>,
     registers: &Registers,
-    i: &Fields,
+    i: &Instruction,
 ) -> Result<Pending, Report>
     ensures { effected registers.now result ≡ compare_aq_less (machine_in (S.cells words.now.store.now) words.now.limits registers.now) i.now }
 {
@@ -78,7 +78,7 @@ pub(crate) fn compare_aq_less<S: Store>(
 pub(crate) fn masked_equal<S: Store>(
     words: &Words<'_, S>,
     registers: &Registers,
-    i: &Fields,
+    i: &Instruction,
 ) -> Result<Pending, Report>
     ensures { effected registers.now result ≡ masked_equal (machine_in (S.cells words.now.store.now) words.now.limits registers.now) i.now }
 {
@@ -91,7 +91,7 @@ pub(crate) fn masked_equal<S: Store>(
 pub(crate) fn masked_less<S: Store>(
     words: &Words<'_, S>,
     registers: &Registers,
-    i: &Fields,
+    i: &Instruction,
 ) -> Result<Pending, Report>
     ensures { effected registers.now result ≡ masked_less (machine_in (S.cells words.now.store.now) words.now.limits registers.now) i.now }
 {

@@ -7,7 +7,7 @@ ghost use Rattle.processor.specs.Results.{effected};
 ghost use Rattle.processor.specs.Skips.{computed_skip_met};
 
 use super::effect::{Next, Pending, Puts};
-use super::fields::Fields;
+use super::fields::Instruction;
 use super::references::Words;
 use super::{Computation, Report};
 use records::Registers;
@@ -17,6 +17,7 @@ use words::{Word, word_bits};
 impl Computation {
     // The new A, of the old A, Q and Y.
     #[tactic(auto, unfolding(crate::specs::Computations::computed))]
+    #[inline(always)]
     fn computed(self, a: Word, q: Word, y: Word) -> Word
         ensures { result ≡ computed self a q y }
     {
@@ -36,6 +37,7 @@ impl Computation {
     }
 
     // Puts the new A in, and answers it.
+    #[inline(always)]
     fn compute_in(self, registers: &mut Registers, y: Word) -> Word
         ensures value { result ≡ registers.new.a }
         ensures after { registers.new ≡ with_computed self registers.old y }
@@ -57,13 +59,13 @@ pub(crate) fn compute<S: Store>(
     computation: Computation,
     words: &Words<'_, S>,
     registers: &mut Registers,
-    i: &Fields,
+    i: &Instruction,
 ) -> Result<Pending, Report>
     ensures { effected registers.new result ≡ compute computation (machine_in (S.cells words.now.store.now) words.now.limits registers.old) i.now }
 {
     let y = words.operand(registers, i)?;
     computation.compute_in(registers, y);
-    Ok(Pending::only(computation.next_by(i.j, registers)))
+    Ok(Pending::only(computation.next_by(i.j(), registers)))
 }
 
 // The same, and the new A is stored by k where Y was read.
@@ -71,7 +73,7 @@ pub(crate) fn replace<S: Store>(
     computation: Computation,
     words: &Words<'_, S>,
     registers: &mut Registers,
-    i: &Fields,
+    i: &Instruction,
 ) -> Result<Pending, Report>
     ensures { effected registers.new result ≡ replace computation (machine_in (S.cells words.now.store.now) words.now.limits registers.old) i.now }
 {
@@ -79,7 +81,7 @@ pub(crate) fn replace<S: Store>(
     let y = words.operand(registers, i)?;
     let a = computation.compute_in(registers, y);
     Ok(Pending {
-        puts: Puts::stored(i.k, at, a, a),
-        next: computation.next_by(i.j, registers),
+        puts: Puts::stored(i.k(), at, a, a),
+        next: computation.next_by(i.j(), registers),
     })
 }

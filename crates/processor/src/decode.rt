@@ -1,14 +1,13 @@
 // Decoding: a word into its fields, and these into an operation.
 ghost use Rattle.std.specs.Prelude.{◌≡◌, ◌+◌, ◌*◌, Some};
-ghost use Rattle.processor.specs.Fields.{fields_of};
 ghost use Rattle.processor.specs.Repertoire.{allows, allows_computing, coded, if_allowed, operation_of, with_code, instructions, instructions_77};
 
-use super::fields::Fields;
+use super::fields::Instruction;
 use super::{Computation, Operation, Shifted};
-use words::Word;
 
 impl Computation {
     // Three do not allow a k of 7.
+    #[inline(always)]
     fn allows(self, k: u8) -> bool
         ensures { result ≡ allows_computing self k }
     {
@@ -23,6 +22,7 @@ impl Computation {
 
 impl Operation {
     // Does it allow this k?
+    #[inline(always)]
     fn allows(self, k: u8) -> bool
         ensures { result ≡ allows self k }
     {
@@ -34,6 +34,7 @@ impl Operation {
         }
     }
 
+    #[inline(always)]
     fn if_allowed(self, k: u8) -> Option<Operation>
         ensures { result ≡ if_allowed k (Some self) }
     {
@@ -42,6 +43,7 @@ impl Operation {
 }
 
 // The operation of a code, where f is not 77.
+#[inline(always)]
 fn with_f(f: u8) -> Option<Operation>
     ensures { result ≡ with_code f instructions }
 {
@@ -117,34 +119,23 @@ fn g(j: u8, k: u8) -> u32
     u32::from(j) * 8 + u32::from(k)
 }
 
-impl Fields {
-    pub(crate) fn of(word: Word) -> Fields
-        ensures { result ≡ fields_of word }
-    {
-        let bits = word.get();
-        Fields {
-            f: (bits >> 24) as u8,
-            j: ((bits >> 21) % 8) as u8,
-            k: ((bits >> 18) % 8) as u8,
-            b: ((bits >> 15) % 8) as u8,
-            y: word.lower_half(),
-        }
-    }
-
+impl Instruction {
+    #[inline(always)]
     fn coded(&self) -> Option<Operation>
         ensures { result ≡ coded self.now }
     {
-        match self.f {
-            0o77 => with_g(g(self.j, self.k)),
+        match self.f() {
+            0o77 => with_g(g(self.j(), self.k())),
             f => with_f(f),
         }
     }
 
     // The operation, if the instruction is legal.
     #[tactic(auto, unfolding(crate::specs::Repertoire::operation_of))]
+    #[inline(always)]
     pub(crate) fn operation(&self) -> Option<Operation>
         ensures { result ≡ operation_of self.now }
     {
-        self.coded()?.if_allowed(self.k)
+        self.coded()?.if_allowed(self.k())
     }
 }

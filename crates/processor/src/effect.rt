@@ -52,6 +52,7 @@ impl Next {
 
 impl Puts {
     // What is stored at an address by k: a word, or with k of 5, 6 and 7 another one; by its lower half in one half, or whole.
+    #[inline(always)]
     pub(crate) fn stored(k: u8, at: RelativeAddress, word: Word, other: Word) -> Puts
         ensures { puts_of result ≡ stored k at.0 word other }
     {

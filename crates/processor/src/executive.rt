@@ -6,14 +6,14 @@ ghost use Rattle.processor.specs.Results.{effected};
 
 use super::Report;
 use super::effect::{Next, Pending, Put, Puts};
-use super::fields::Fields;
+use super::fields::Instruction;
 use super::references::Words;
 use records::Registers;
 use store::{Half, Store};
 use words::half_bits;
 
 // Interrupts, and tells ȳ.
-pub(crate) fn executive_return(registers: &Registers, i: &Fields) -> Report
+pub(crate) fn executive_return(registers: &Registers, i: &Instruction) -> Report
     ensures { result ≡ executive_return registers.now i.now }
 {
     Report::ExecutiveReturn(i.effective(registers))
@@ -23,7 +23,7 @@ pub(crate) fn executive_return(registers: &Registers, i: &Fields) -> Report
 pub(crate) fn test_and_set<S: Store>(
     words: &Words<'_, S>,
     registers: &Registers,
-    i: &Fields,
+    i: &Instruction,
 ) -> Result<Pending, Report>
     ensures { effected registers.now result ≡ test_and_set (machine_in (S.cells words.now.store.now) words.now.limits registers.now) i.now }
 {

@@ -10,7 +10,7 @@ use super::comparisons::{
 use super::computations::{compute, replace};
 use super::effect::Pending;
 use super::executive::{executive_return, test_and_set};
-use super::fields::Fields;
+use super::fields::Instruction;
 use super::jumps::{jump, jump_on_b, return_jump, skip_on_b};
 use super::references::Words;
 use super::shifts::{Shift, scale, shift_by_operand, shift_right_logical};
@@ -27,7 +27,7 @@ fn effect_of<S: Store>(
     operation: Operation,
     words: &Words<'_, S>,
     registers: &mut Registers,
-    i: &Fields,
+    i: &Instruction,
 ) -> Result<Pending, Report>
     ensures { effected registers.new result ≡ effect_of operation (machine_in (S.cells words.now.store.now) words.now.limits registers.old) i.now }
 {
@@ -71,7 +71,7 @@ fn effect_of<S: Store>(
 pub(crate) fn instruction_effect<S: Store>(
     words: &Words<'_, S>,
     registers: &mut Registers,
-    i: &Fields,
+    i: &Instruction,
 ) -> Result<Pending, Report>
     ensures { effected registers.new result ≡ instruction_effect (machine_in (S.cells words.now.store.now) words.now.limits registers.old) i.now }
 {

@@ -6,7 +6,7 @@ ghost use Rattle.processor.specs.Results.{effect, effected};
 ghost use Rattle.processor.specs.Skips.{skip_met};
 
 use super::effect::{Next, Pending, Put, Puts};
-use super::fields::Fields;
+use super::fields::Instruction;
 use super::references::Words;
 use super::skips::skip_met;
 use super::{RelativeAddress, Report};
@@ -15,27 +15,28 @@ use store::{Half, Store};
 use words::{HalfWord, half_bits};
 
 // The target: the lowest 15 bits of Y.
+#[inline(always)]
 fn target<S: Store>(
     words: &Words<'_, S>,
     registers: &Registers,
-    i: &Fields,
+    i: &Instruction,
 ) -> Result<HalfWord, Report>
     ensures { result ≡ target (machine_in (S.cells words.now.store.now) words.now.limits registers.now) i.now }
 {
     Ok(words.operand(registers, i)?.lower_half())
 }
 
-fn jump_met(registers: &Registers, i: &Fields) -> bool
+fn jump_met(registers: &Registers, i: &Instruction) -> bool
     ensures { result ≡ skip_met i.now.j registers.now.a registers.now.q }
 {
-    skip_met(i.j, registers.a(), registers.q())
+    skip_met(i.j(), registers.a(), registers.q())
 }
 
 // Jumps if j's test holds.
 pub(crate) fn jump<S: Store>(
     words: &Words<'_, S>,
     registers: &Registers,
-    i: &Fields,
+    i: &Instruction,
 ) -> Result<Pending, Report>
     ensures { effected registers.now result ≡ jump (machine_in (S.cells words.now.store.now) words.now.limits registers.now) i.now }
 {
@@ -63,7 +64,7 @@ fn returning(registers: &Registers, target: HalfWord) -> Pending
 pub(crate) fn return_jump<S: Store>(
     words: &Words<'_, S>,
     registers: &Registers,
-    i: &Fields,
+    i: &Instruction,
 ) -> Result<Pending, Report>
     ensures { effected registers.now result ≡ return_jump (machine_in (S.cells words.now.store.now) words.now.limits registers.now) i.now }
 {
@@ -79,12 +80,12 @@ pub(crate) fn return_jump<S: Store>(
 pub(crate) fn skip_on_b<S: Store>(
     words: &Words<'_, S>,
     registers: &mut Registers,
-    i: &Fields,
+    i: &Instruction,
 ) -> Result<Pending, Report>
     ensures { effected registers.new result ≡ skip_on_b (machine_in (S.cells words.now.store.now) words.now.limits registers.old) i.now }
 {
     let target = target(words, registers, i)?;
-    let j = i.j.into();
+    let j = i.j().into();
     let b = registers.b(j);
     Ok(Pending::only(if b == target.get() {
         registers.set_b(j, 0);
@@ -99,12 +100,12 @@ pub(crate) fn skip_on_b<S: Store>(
 pub(crate) fn jump_on_b<S: Store>(
     words: &Words<'_, S>,
     registers: &mut Registers,
-    i: &Fields,
+    i: &Instruction,
 ) -> Result<Pending, Report>
     ensures { effected registers.new result ≡ jump_on_b (machine_in (S.cells words.now.store.now) words.now.limits registers.old) i.now }
 {
     let target = target(words, registers, i)?;
-    let j = i.j.into();
+    let j = i.j().into();
     let b = registers.b(j);
     Ok(Pending::only(if b == 0 {
         Next::Onward

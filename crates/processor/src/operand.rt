@@ -1,22 +1,23 @@
 // The effective address and the operand of an instruction.
 ghost use Rattle.std.specs.Prelude.{◌≡◌};
 ghost use Rattle.processor.specs.Limits.{machine_in};
-ghost use Rattle.processor.specs.Operands.{effective, further, operand};
+ghost use Rattle.processor.specs.Operands.{effective, further, operand, picked};
 ghost use Rattle.processor.specs.Reports.{relative};
 
-use super::fields::Fields;
+use super::fields::Instruction;
 use super::references::Words;
 use super::{RelativeAddress, Report};
 use records::Registers;
 use store::Store;
 use words::{HalfWord, Word, half_bits};
 
-impl Fields {
+impl Instruction {
     // The effective address ȳ as a number: y and Bb, modulo 32,768.
+    #[inline(always)]
     fn effective_half(&self, registers: &Registers) -> HalfWord
         ensures { result ≡ effective registers.now self.now }
     {
-        half_bits(self.y.get() + registers.b(self.b.into()))
+        half_bits(self.y().get() + registers.b(self.b().into()))
     }
 
     pub(crate) fn effective(&self, registers: &Registers) -> RelativeAddress
@@ -34,21 +35,33 @@ impl Fields {
     }
 }
 
+// The part of a word that k picks, as a word: a half with zeros above, or with bit 14 copied upwards, or all of it.
+#[inline(always)]
+fn picked(k: u8, word: Word) -> Word
+    ensures { result ≡ picked k word }
+{
+    match k {
+        1 => word.lower_half().with_zeros(),
+        2 => word.upper_half().with_zeros(),
+        5 => word.lower_half().extended(),
+        6 => word.upper_half().extended(),
+        _ => word,
+    }
+}
+
 impl<S: Store> Words<'_, S> {
     // The operand Y by k.
-    pub(crate) fn operand(&self, registers: &Registers, i: &Fields) -> Result<Word, Report>
+    #[inline(always)]
+    pub(crate) fn operand(&self, registers: &Registers, i: &Instruction) -> Result<Word, Report>
         ensures { result ≡ operand (machine_in (S.cells self.now.store.now) self.now.limits registers.now) i.now }
     {
         let effective = i.effective_half(registers);
         let at = RelativeAddress(effective.get());
-        Ok(match i.k {
+        Ok(match i.k() {
             0 => effective.with_zeros(),
-            1 => self.read(at)?.lower_half().with_zeros(),
-            2 => self.read(at)?.upper_half().with_zeros(),
             3 => self.read(at)?,
             4 => effective.extended(),
-            5 => self.read(at)?.lower_half().extended(),
-            6 => self.read(at)?.upper_half().extended(),
+            1 | 2 | 5 | 6 => picked(i.k(), self.read(at)?),
             _ => registers.a(),
         })
     }

@@ -49,6 +49,7 @@ impl From<FailedReference> for Report {
 }
 
 // What a reference answers, with the reference named if it failed.
+#[inline(always)]
 pub(crate) fn named<T>(
     kind: ReferenceKind,
     address: RelativeAddress,
@@ -82,6 +83,7 @@ impl<'a, S: Store> Words<'a, S> {
 
     // The word at an address, tried for protection and then for parity.
     #[tactic(auto, using(crate::proofs::Between::fetched_between))]
+    #[inline(always)]
     fn word(&self, address: RelativeAddress) -> Result<Word, ReferenceFault>
         ensures value { result ≡ limits_tried self.now.limits.length address.0 (fetched (between (S.cells self.now.store.now) self.now.limits) address.0) }
         ensures bounded { Bounded self.now.limits }
@@ -98,6 +100,7 @@ impl<'a, S: Store> Words<'a, S> {
         Ok(named(ReferenceKind::Fetch, address, self.word(address))?)
     }
 
+    #[inline(always)]
     pub(crate) fn read(&self, address: RelativeAddress) -> Result<Word, Report>
         ensures { result ≡ refer self.now.limits.length Read address.0 (fetched (between (S.cells self.now.store.now) self.now.limits) address.0) }
     {

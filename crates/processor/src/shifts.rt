@@ -5,7 +5,7 @@ ghost use Rattle.processor.specs.Results.{effect, effected};
 ghost use Rattle.processor.specs.Shifts.{count_of, scale, shift_by_operand, shift_of, shift_right_logical, shifted};
 
 use super::effect::{Next, Pending};
-use super::fields::Fields;
+use super::fields::Instruction;
 use super::references::Words;
 use super::skips::skip_met;
 use super::{RelativeAddress, Report, Shifted};
@@ -71,26 +71,27 @@ fn count_of(registers: &Registers, number: u32) -> Result<u32, Report>
 }
 
 // By the operand, and a skip by j.
+#[inline(always)]
 pub(crate) fn shift_by_operand<S: Store>(
     shift: Shift,
     which: Shifted,
     words: &Words<'_, S>,
     registers: &mut Registers,
-    i: &Fields,
+    i: &Instruction,
 ) -> Result<Pending, Report>
     ensures { effected registers.new result ≡ shift_by_operand shift which (machine_in (S.cells words.now.store.now) words.now.limits registers.old) i.now }
 {
     let y = words.operand(registers, i)?;
     let count = count_of(registers, y.get())?;
     shift.apply(which, registers, count);
-    Ok(Pending::skipping(i.j, registers))
+    Ok(Pending::skipping(i.j(), registers))
 }
 
 // To the right by ȳ, filled with zeros.
 pub(crate) fn shift_right_logical(
     which: Shifted,
     registers: &mut Registers,
-    i: &Fields,
+    i: &Instruction,
 ) -> Result<Pending, Report>
     ensures { effected registers.new result ≡ shift_right_logical which registers.old i.now }
 {

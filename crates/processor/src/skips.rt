@@ -13,6 +13,7 @@ fn is_negative(word: Word) -> bool
 
 // Never; always; Q's sign is 0, is 1; A is all zeros, is not; A's sign is 0, is 1.
 #[tactic(auto, unfolding(crate::specs::Skips::skip_met))]
+#[inline(always)]
 pub(crate) fn skip_met(j: u8, a: Word, q: Word) -> bool
     ensures { result ≡ skip_met j a q }
 {
@@ -41,6 +42,7 @@ fn product_skip_met(j: u8, a: Word, q: Word) -> bool
 }
 
 impl Computation {
+    #[inline(always)]
     pub(crate) fn skip_met(self, j: u8, a: Word, q: Word) -> bool
         ensures { result ≡ computed_skip_met self j a q }
     {

@@ -1,16 +1,15 @@
 // One step: the instruction at P, done whole or not at all.
-ghost use Rattle.std.specs.Prelude.{◌≡◌, ◌+◌, ◌<◌, ◌≤◌, ◌^◌, length, IfErr, OnErr};
+ghost use Rattle.std.specs.Prelude.{◌≡◌, ◌+◌, ◌<◌, ◌≤◌, ◌^◌, length, IfErr, OnErr, OnOk};
 ghost use Rattle.records.specs.Registers.{Fits, with_p};
 ghost use Rattle.processor.specs.Effects.{next_p};
 ghost use Rattle.processor.specs.Beneath.{PutsDo, step_puts};
 ghost use Rattle.processor.specs.Limits.{Becomes, Bounded, KeepsOtherCells, between, machine_in, row_with};
 ghost use Rattle.processor.specs.Placed.{step_in};
 ghost use Rattle.processor.specs.Reports.{OfCell, p_after};
-ghost use Rattle.processor.specs.Results.{effected, puts_left, words_left};
-ghost use Rattle.processor.specs.Step.{answer_of, machine_after, tried};
+ghost use Rattle.processor.specs.Step.{answer_of, machine_after};
 
-use super::effect::{Next, Pending};
-use super::fields::Fields;
+use super::effect::Next;
+use super::fields::Instruction;
 use super::guard::Guard;
 use super::instruction::instruction_effect;
 use super::limits::Limits;
@@ -47,24 +46,23 @@ impl Report {
     }
 }
 
-// In order: the fetch at P; illegal codes; what the instruction reads and tests; what it puts, which is all tried first.
-#[tactic(auto, unfolding(crate::specs::Step::tried))]
-fn attempt<S: Store>(
-    store: &mut S,
-    limits: Limits,
-    registers: &mut Registers,
-) -> Result<Pending, Report>
-    ensures tried { effected registers.new result ≡ tried (machine_in (S.cells store.old) limits registers.old) }
-    ensures words { Becomes (S.cells store.old) limits (words_left (between (S.cells store.old) limits) result) (S.cells store.new) }
+// In order: the fetch at P; illegal codes; what the instruction reads and tests; what it puts, which is all tried first; and P, if nothing failed.
+#[tactic(auto, unfolding(crate::specs::Step::tried, crate::specs::Step::step))]
+fn attempt<S: Store>(store: &mut S, limits: Limits, registers: &mut Registers) -> Result<(), Report>
+    ensures answer { result ≡ answer_of (step_in (S.cells store.old) limits registers.old) }
+    ensures registers { OnOk result (registers.new ≡ (machine_after (step_in (S.cells store.old) limits registers.old)).registers) }
+    ensures words { Becomes (S.cells store.old) limits (machine_after (step_in (S.cells store.old) limits registers.old)).words (S.cells store.new) }
     ensures bounded { Bounded limits }
-    ensures does { PutsDo S.puts_whole S.puts_half limits (puts_left result) store.old store.new }
+    ensures does { PutsDo S.puts_whole S.puts_half limits (step_puts (machine_in (S.cells store.old) limits registers.old)) store.old store.new }
     ensures refused { OnErr result (store.new ≡ store.old) }
 {
+    let p = registers.p();
     let words = Words::new(store, limits);
-    let word = words.fetch(RelativeAddress(registers.p()))?;
-    let pending = instruction_effect(&words, registers, &Fields::of(word))?;
+    let word = words.fetch(RelativeAddress(p))?;
+    let pending = instruction_effect(&words, registers, &Instruction::of(word))?;
     put_all(store, limits, pending.puts)?;
-    Ok(pending)
+    registers.set_p(pending.next.p_after(p));
+    Ok(())
 }
 
 // One step under the guard.
@@ -90,8 +88,7 @@ pub(crate) fn guarded_step<S: Store>(
         accepted: false,
     };
     match attempt(store, limits, guard.registers) {
-        Ok(pending) => {
-            guard.registers.set_p(pending.next.p_after(p));
+        Ok(()) => {
             guard.accepted = true;
             Ok(())
         }

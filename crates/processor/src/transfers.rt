@@ -6,7 +6,7 @@ ghost use Rattle.processor.specs.Transfers.{enter_a, enter_aq, enter_b, enter_q,
 
 use super::Report;
 use super::effect::{Next, Pending, Puts};
-use super::fields::Fields;
+use super::fields::Instruction;
 use super::references::Words;
 use records::Registers;
 use store::Store;
@@ -16,71 +16,73 @@ use words::{Word, half_bits, packed};
 pub(crate) fn enter_q<S: Store>(
     words: &Words<'_, S>,
     registers: &mut Registers,
-    i: &Fields,
+    i: &Instruction,
 ) -> Result<Pending, Report>
     ensures { effected registers.new result ≡ enter_q (machine_in (S.cells words.now.store.now) words.now.limits registers.old) i.now }
 {
     let y = words.operand(registers, i)?;
     registers.set_q(y);
-    Ok(Pending::skipping(i.j, registers))
+    Ok(Pending::skipping(i.j(), registers))
 }
 
 // Y to A.
 pub(crate) fn enter_a<S: Store>(
     words: &Words<'_, S>,
     registers: &mut Registers,
-    i: &Fields,
+    i: &Instruction,
 ) -> Result<Pending, Report>
     ensures { effected registers.new result ≡ enter_a (machine_in (S.cells words.now.store.now) words.now.limits registers.old) i.now }
 {
     let y = words.operand(registers, i)?;
     registers.set_a(y);
-    Ok(Pending::skipping(i.j, registers))
+    Ok(Pending::skipping(i.j(), registers))
 }
 
 // The lowest 15 bits of Y to Bj; with j = 0 it does nothing and refers to nothing.
 pub(crate) fn enter_b<S: Store>(
     words: &Words<'_, S>,
     registers: &mut Registers,
-    i: &Fields,
+    i: &Instruction,
 ) -> Result<Pending, Report>
     ensures { effected registers.new result ≡ enter_b (machine_in (S.cells words.now.store.now) words.now.limits registers.old) i.now }
 {
-    if i.j != 0 {
+    if i.j() != 0 {
         let y = words.operand(registers, i)?;
-        registers.set_b(i.j.into(), y.get());
+        registers.set_b(i.j().into(), y.get());
     }
     Ok(Pending::only(Next::Onward))
 }
 
 // Q, or its complement; k = 0 complements Q in place, and 4 puts Q in A.
-pub(crate) fn store_q(registers: &mut Registers, i: &Fields) -> Pending
+#[inline(always)]
+pub(crate) fn store_q(registers: &mut Registers, i: &Instruction) -> Pending
     ensures { effect registers.new result ≡ store_q registers.old i.now }
 {
     let at = i.effective(registers);
     let q = registers.q();
     let complement = q.complement();
-    match i.k {
+    match i.k() {
         0 => registers.set_q(complement),
         4 => registers.set_a(q),
         _ => {}
     }
-    Pending::with_skip(Puts::stored(i.k, at, q, complement), i.j, registers)
+    Pending::with_skip(Puts::stored(i.k(), at, q, complement), i.j(), registers)
 }
 
 // A, or its complement; k = 0 puts A in Q, and 4 complements A in place.
-pub(crate) fn store_a(registers: &mut Registers, i: &Fields) -> Pending
+#[inline(always)]
+pub(crate) fn store_a(registers: &mut Registers, i: &Instruction) -> Pending
     ensures { effect registers.new result ≡ store_a registers.old i.now }
 {
     let at = i.effective(registers);
     let a = registers.a();
     let complement = a.complement();
-    match i.k {
+    match i.k() {
         0 => registers.set_q(a),
         4 => registers.set_a(complement),
         _ => {}
     }
-    Pending::with_skip(Puts::stored(i.k, at, a, complement), i.j, registers)
+    Pending::with_skip(Puts::stored(i.k(), at, a, complement), i.j(), registers)
 }
 
 // A word in a register by k: with k = 0 in Q, and with 4 in A.
@@ -95,29 +97,31 @@ fn set_by(k: u8, registers: &mut Registers, word: Word)
 }
 
 // Bj with zeros above, or its complement with bit 14 copied upwards; k = 0 puts Bj in Q, and 4 in A. It never skips.
-pub(crate) fn store_b(registers: &mut Registers, i: &Fields) -> Pending
+#[inline(always)]
+pub(crate) fn store_b(registers: &mut Registers, i: &Instruction) -> Pending
     ensures { effect registers.new result ≡ store_b registers.old i.now }
 {
     let at = i.effective(registers);
-    let b = half_bits(registers.b(i.j.into()));
+    let b = half_bits(registers.b(i.j().into()));
     let word = b.with_zeros();
-    set_by(i.k, registers, word);
+    set_by(i.k(), registers, word);
     Pending {
-        puts: Puts::stored(i.k, at, word, b.complement().extended()),
+        puts: Puts::stored(i.k(), at, word, b.complement().extended()),
         next: Next::Onward,
     }
 }
 
 // The logical product of A and Q, or its complement; k = 0 puts it in Q, and 4 in A.
-pub(crate) fn store_product(registers: &mut Registers, i: &Fields) -> Pending
+#[inline(always)]
+pub(crate) fn store_product(registers: &mut Registers, i: &Instruction) -> Pending
     ensures { effect registers.new result ≡ store_product registers.old i.now }
 {
     let at = i.effective(registers);
     let product = registers.a().product(registers.q());
-    set_by(i.k, registers, product);
+    set_by(i.k(), registers, product);
     Pending::with_skip(
-        Puts::stored(i.k, at, product, product.complement()),
-        i.j,
+        Puts::stored(i.k(), at, product, product.complement()),
+        i.j(),
         registers,
     )
 }
@@ -126,7 +130,7 @@ pub(crate) fn store_product(registers: &mut Registers, i: &Fields) -> Pending
 pub(crate) fn enter_aq<S: Store>(
     words: &Words<'_, S>,
     registers: &mut Registers,
-    i: &Fields,
+    i: &Instruction,
 ) -> Result<Pending, Report>
     ensures { effected registers.new result ≡ enter_aq (machine_in (S.cells words.now.store.now) words.now.limits registers.old) i.now }
 {
@@ -138,7 +142,7 @@ pub(crate) fn enter_aq<S: Store>(
 }
 
 // A and Q to two words.
-pub(crate) fn store_aq(registers: &Registers, i: &Fields) -> Pending
+pub(crate) fn store_aq(registers: &Registers, i: &Instruction) -> Pending
     ensures { effect registers.now result ≡ store_aq registers.now i.now }
 {
     let a = (i.effective(registers), registers.a());
@@ -153,7 +157,7 @@ pub(crate) fn store_aq(registers: &Registers, i: &Fields) -> Pending
 pub(crate) fn pack_lower<S: Store>(
     words: &Words<'_, S>,
     registers: &mut Registers,
-    i: &Fields,
+    i: &Instruction,
 ) -> Result<Pending, Report>
     ensures { effected registers.new result ≡ pack_lower (machine_in (S.cells words.now.store.now) words.now.limits registers.old) i.now }
 {

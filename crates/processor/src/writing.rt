@@ -77,6 +77,7 @@ fn put_half<S: Store>(
     Ok(store.put_half(cell, half, number.get())?)
 }
 
+#[inline(always)]
 fn put<S: Store>(store: &mut S, limits: Limits, put: Put) -> Result<(), Report>
     ensures answer { result ≡ put_tried limits.length (between (S.cells store.old) limits) put }
     ensures after { Becomes (S.cells store.old) limits (if is_ok result then put_done (between (S.cells store.old) limits) put else between (S.cells store.old) limits) (S.cells store.new) }

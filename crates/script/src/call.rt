@@ -1,10 +1,10 @@
 // The calls of a script, and how words make one.
 #![tactic(auto, using(crate::proofs::Texts::length_texts, crate::proofs::Texts::text_at))]
 
-ghost use Rattle.std.specs.Prelude.{◌≡◌, vec_items};
+ghost use Rattle.std.specs.Prelude.{◌≡◌, IsOk, IsTrue, vec_items};
 ghost use Rattle.engine.specs.Bytes.{call_with};
 ghost use Rattle.script.specs.Calls.{read_call, buffer_of, bytes_of, admit_call, load_call, look_call, run_call, answer_call, save_call, restore_call, tell_call, retire_call, span_call, fixed_call, plain_call};
-ghost use Rattle.script.specs.Failure.{Gives};
+ghost use Rattle.script.specs.Failure.{Gives, ran_out};
 ghost use Rattle.script.specs.Line.{texts};
 
 use crate::failure::Failure;
@@ -21,7 +21,8 @@ const MOST_BYTES: u32 = 4_096;
 
 // SIZE
 fn read_buffer(heap: Global, word: &[u8]) -> Result<Vec<u8>, Failure<Reason>>
-    ensures { Gives vec_items result (buffer_of word.now) }
+    ensures value { Gives vec_items result (buffer_of word.now) }
+    ensures out_of_memory { IsTrue (ran_out result) → IsOk (buffer_of word.now) }
 {
     let size = read_number_up_to(MOST_BYTES, word)?;
     let buffer = vec![in heap; 0; size as usize]?;
@@ -125,7 +126,8 @@ fn answer(args: &[&[u8]]) -> Result<Call<Vec<u8>>, Reason>
 
 // save PLACE SIZE
 pub(crate) fn save(heap: Global, args: &[&[u8]]) -> Result<Call<Vec<u8>>, Failure<Reason>>
-    ensures { Gives (call_with vec_items) result (save_call (texts args.now)) }
+    ensures value { Gives (call_with vec_items) result (save_call (texts args.now)) }
+    ensures out_of_memory { IsTrue (ran_out result) → IsOk (save_call (texts args.now)) }
 {
     let [place, size] = args else {
         return Err(Reason::WordCount.into());

@@ -4,6 +4,7 @@
 mod answer;
 mod call;
 mod failure;
+mod installed;
 mod line;
 mod number;
 mod player;

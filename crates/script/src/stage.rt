@@ -1,19 +1,17 @@
 // What a session has: nothing yet, memories, or an installation over them; and what a statement makes of that.
 ghost use Rattle.std.specs.Prelude.{◌≡◌, if◌then◌else◌, IsTrue, Ok, false};
-ghost use Rattle.engine.specs.Installed.{means};
-ghost use Rattle.memories.specs.Any.{row_of};
 ghost use Rattle.script.specs.declared.answer.Answer.TheVariants.{Done};
 ghost use Rattle.script.specs.Failure.{Gives, ran_out};
 ghost use Rattle.script.specs.Session.{nothing, installed, answered, left, answered_before, left_before, answered_on, left_on, answered_in, left_of};
-ghost use Rattle.script.specs.Stage.{state_of};
+ghost use Rattle.script.specs.Stage.{installation_of, state_of};
 ghost use Rattle.script.specs.Statement.{statement_seen};
 ghost use Rattle.script.specs.Transcript.{answer_seen};
 
 use crate::answer::Answer;
 use crate::failure::Failure;
+use crate::installed::AnyInstallation;
 use crate::reason::Reason;
 use crate::statement::Statement;
-use engine::Installation;
 use memories::Setup;
 use std::alloc::Global;
 
@@ -21,7 +19,7 @@ use std::alloc::Global;
 pub(crate) enum Stage {
     Nothing,
     Memories(Setup),
-    Installed(Installation<Setup>),
+    Installed(AnyInstallation),
 }
 
 type Outcome = Result<Answer<Vec<u8>>, Failure<Reason>>;
@@ -75,19 +73,22 @@ fn after_memories(mut setup: Setup, statement: Statement<Vec<u8>>) -> (Stage, Ou
             let reply = setup.perform(operation);
             (Stage::Memories(setup), Ok(Answer::Reply(reply)))
         }
-        Statement::Install => (Stage::Installed(Installation::new(setup)), Ok(Answer::Done)),
+        Statement::Install => (
+            Stage::Installed(AnyInstallation::over(setup)),
+            Ok(Answer::Done),
+        ),
         Statement::Call(_) => (Stage::Memories(setup), Err(Reason::NoInstallation.into())),
     }
 }
 
 // Once there is an installation, only calls can be done.
 fn after_installation(
-    mut installation: Installation<Setup>,
+    mut installation: AnyInstallation,
     statement: Statement<Vec<u8>>,
 ) -> (Stage, Outcome)
-    ensures answer { Gives answer_seen result.1 (answered_in (means row_of installation) (statement_seen statement)) }
+    ensures answer { Gives answer_seen result.1 (answered_in (installation_of installation) (statement_seen statement)) }
     ensures out_of_memory { ran_out result.1 ≡ false }
-    ensures after { state_of result.0 ≡ installed (left_of (means row_of installation) (statement_seen statement)) }
+    ensures after { state_of result.0 ≡ installed (left_of (installation_of installation) (statement_seen statement)) }
 {
     match statement {
         Statement::Call(call) => {

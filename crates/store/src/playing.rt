@@ -1,5 +1,5 @@
 // Lists of a store's functions: on one store, and the same list on two.
-ghost use Rattle.std.specs.Prelude.{◌≡◌, ◌+◌, ◌≤◌, ◌++◌, length, is_ok, IfOk, OnOk, OnErr, if◌then◌else◌, vec_len, vec_capacity};
+ghost use Rattle.std.specs.Prelude.{◌≡◌, ◌+◌, ◌≤◌, ◌++◌, length, is_ok, IsOk, IfOk, OnOk, OnErr, if◌then◌else◌, vec_len, vec_capacity};
 ghost use Rattle.store.specs.Operations.{replies, left_by, DoesAll, Alike};
 
 use super::{Operation, Reply, Store, perform};
@@ -28,6 +28,7 @@ pub fn play<S: Store>(
     ensures after { S.cells store.new ≡ (if is_ok result then left_by (S.cells store.old) operations.now else S.cells store.old) }
     ensures does { OnOk result (DoesAll S.cells S.puts_whole S.puts_half operations.now store.old store.new) }
     ensures out_of_memory { OnErr result (store.new ≡ store.old) }
+    ensures nothing_to_play { length operations.now ≡ 0 → IsOk result }
 {
     let mut answers = Vec::with_capacity(heap, operations.len())?;
     play_into(&mut answers, store, operations);
@@ -48,6 +49,7 @@ pub fn play_both<S: Store, T: Store>(
     ensures first_does { OnOk result (DoesAll S.cells S.puts_whole S.puts_half operations.now first.old first.new) }
     ensures second_does { OnOk result (DoesAll T.cells T.puts_whole T.puts_half operations.now second.old second.new) }
     ensures out_of_memory { OnErr result ((first.new ≡ first.old) × (second.new ≡ second.old)) }
+    ensures nothing_to_play { length operations.now ≡ 0 → IsOk result }
 {
     let mut first_answers = Vec::with_capacity(heap, operations.len())?;
     let mut second_answers = Vec::with_capacity(heap, operations.len())?;

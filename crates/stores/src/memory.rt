@@ -1,6 +1,7 @@
 // A memory: the numbers that lie under a store. Numbers that belong to no cell are never used.
 // Between u32 and usize it goes by `as`, which is proved to lose nothing: there is no From, and a TryFrom would add a failure that cannot be.
-ghost use Rattle.std.specs.Prelude.{◌≡◌, ℕ, Some, ◌+◌, ◌*◌, ◌/◌, ◌<◌, ◌≤◌, min, List, length, slice_get, slice_set};
+ghost use Rattle.std.specs.Prelude.{◌≡◌, ℕ, Some, IfNone, ◌+◌, ◌*◌, ◌/◌, ◌<◌, ◌≤◌, min, List, length, slice_get, slice_set};
+ghost use Rattle.std.specs.Vec.{SameBlock};
 ghost use Rattle.store.specs.Cells.{Cell, most_cells};
 ghost use Rattle.store.specs.Functions.{Finds};
 ghost use Rattle.stores.specs.Memory.{numbers};
@@ -54,6 +55,8 @@ impl<N: Number> Memory<N> {
         ensures answer { result ≡ slice_get (numbers self.old) index }
         ensures memory { numbers self.new ≡ slice_set (numbers self.old) index number }
         ensures row { N.cells (numbers self.new) ≡ N.replaced (N.cells (numbers self.old)) index number }
+        ensures block { SameBlock self.old.numbers self.new.numbers }
+        ensures refused { IfNone result (self.new ≡ self.old) }
     {
         let former = self.numbers.get_mut(index as usize)?;
         Some(mem::replace(former, number))
@@ -64,6 +67,7 @@ impl<N: Number> Memory<N> {
         requires { index < length (numbers self.old) }
         ensures memory { numbers self.new ≡ slice_set (numbers self.old) index number }
         ensures row { N.cells (numbers self.new) ≡ N.replaced (N.cells (numbers self.old)) index number }
+        ensures block { SameBlock self.old.numbers self.new.numbers }
     {
         self.numbers[index] = number;
     }

@@ -1,7 +1,7 @@
 // One 32-bit number of the word store: the word in bits 29 to 0, and above it two marks of spoiled halves: bit 31 of the upper one, bit 30 of the lower.
 ghost use Rattle.std.specs.Prelude.{◌≡◌, Ok, IfOk};
 ghost use Rattle.store.specs.Cells.{part, other_half, value_of, with_half};
-ghost use Rattle.store.specs.Functions.{if_good};
+ghost use Rattle.store.specs.Functions.{if_good, word_of};
 ghost use Rattle.stores.specs.Word.{cell_of, half_written};
 
 use store::{Fault, Half};
@@ -14,6 +14,17 @@ pub(crate) fn good_half(number: u32, half: Half) -> Option<HalfWord>
     match half {
         Half::Upper => ((number >> 31) % 2 == 0).then_some(word_bits(number).upper_half()),
         Half::Lower => ((number >> 30) % 2 == 0).then_some(word_bits(number).lower_half()),
+    }
+}
+
+// The word of the number, if both halves are good; the upper mark counts first.
+pub(crate) fn word(number: u32) -> Result<Word, Fault>
+    ensures { result ≡ word_of (cell_of number) }
+{
+    match number >> 30 {
+        0 => Ok(word_bits(number)),
+        1 => Err(Fault::Spoiled(Half::Lower)),
+        _ => Err(Fault::Spoiled(Half::Upper)),
     }
 }
 

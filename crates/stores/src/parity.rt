@@ -1,6 +1,7 @@
 // The parity store: a cell is two 16-bit numbers, the upper half first. An odd last number and numbers past 131,072 cells belong to no cell.
 ghost use Rattle.std.specs.Prelude.{◌≡◌, ◌<◌, length, is_ok, OnErr, if◌then◌else◌};
 ghost use Rattle.std.proofs.Common.{arith};
+ghost use Rattle.std.specs.Vec.{SameBlock};
 ghost use Rattle.store.specs.Cells.{cell_at, part};
 ghost use Rattle.store.specs.Functions.{put_whole_answer, half_put, Finds};
 ghost use Rattle.stores.specs.Memory.{numbers};
@@ -56,6 +57,7 @@ impl ParityStore {
         ensures after { row self.new ≡ (if is_ok result then half_put (row self.old) address.0 half value else row self.old) }
         ensures memory { numbers self.new ≡ (if is_ok result then half_written (numbers self.old) address.0 half value else numbers self.old) }
         ensures refused { OnErr result (self.new ≡ self.old) }
+        ensures block { SameBlock self.old.numbers self.new.numbers }
     {
         let index = self.half_index(address, half)?;
         self.write(index, sixteen::half_number(value));
@@ -66,9 +68,9 @@ impl ParityStore {
 impl Store for ParityStore {
     ghost cells = { row };
 
-    ghost puts_whole = { λ s a w t. numbers t ≡ whole_written (numbers s) a w };
+    ghost puts_whole = { λ s a w t. (numbers t ≡ whole_written (numbers s) a w) × SameBlock s.numbers t.numbers };
 
-    ghost puts_half = { λ s a h v t. numbers t ≡ half_written (numbers s) a h v };
+    ghost puts_half = { λ s a h v t. (numbers t ≡ half_written (numbers s) a h v) × SameBlock s.numbers t.numbers };
 
     ghost bounded = { λ s. row_bounded (numbers s) };
 

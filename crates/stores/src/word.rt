@@ -2,6 +2,7 @@
 ghost use Rattle.std.specs.Prelude.{◌≡◌, length, is_ok, OnErr, if◌then◌else◌, slice_index, slice_set};
 ghost use Rattle.std.proofs.Common.{arith};
 ghost use Rattle.words.specs.Words.{word_bits};
+ghost use Rattle.std.specs.Vec.{SameBlock};
 ghost use Rattle.store.specs.Cells.{cell_at};
 ghost use Rattle.store.specs.Functions.{put_whole_answer, Finds};
 ghost use Rattle.stores.specs.Memory.{numbers};
@@ -9,7 +10,7 @@ ghost use Rattle.stores.specs.Word.{cell_of, cell_count, row, row_of, half_writt
 ghost use Rattle.stores.specs.WordRow.{length_row_by_one, row_bounded, row_fits, row_replaced};
 
 use super::memory::{Memory, Number};
-use super::{halves, number};
+use super::number;
 use store::{CellAddress, Fault, Half, Store};
 use words::{Word, word_bits};
 
@@ -45,6 +46,7 @@ impl WordStore {
         ensures after { row self.new ≡ (if is_ok result then slice_set (row self.old) address.0 (cell_of number) else row self.old) }
         ensures memory { numbers self.new ≡ (if is_ok result then slice_set (numbers self.old) address.0 number else numbers self.old) }
         ensures refused { OnErr result (self.new ≡ self.old) }
+        ensures block { SameBlock self.old.numbers self.new.numbers }
     {
         let index = self.index_of(address)?;
         self.write(index, number);
@@ -55,9 +57,9 @@ impl WordStore {
 impl Store for WordStore {
     ghost cells = { row };
 
-    ghost puts_whole = { λ s a w t. numbers t ≡ slice_set (numbers s) a (word_bits w) };
+    ghost puts_whole = { λ s a w t. (numbers t ≡ slice_set (numbers s) a (word_bits w)) × SameBlock s.numbers t.numbers };
 
-    ghost puts_half = { λ s a h v t. numbers t ≡ slice_set (numbers s) a (half_written (slice_index (numbers s) a) h v) };
+    ghost puts_half = { λ s a h v t. (numbers t ≡ slice_set (numbers s) a (half_written (slice_index (numbers s) a) h v)) × SameBlock s.numbers t.numbers };
 
     ghost bounded = { λ s. row_bounded (numbers s) };
 
@@ -71,11 +73,7 @@ impl Store for WordStore {
     }
 
     fn fetch(&self, address: CellAddress) -> Result<Word, Fault> {
-        let number = self.cell_number(address)?;
-        halves::word(
-            number::good_half(number, Half::Upper),
-            number::good_half(number, Half::Lower),
-        )
+        number::word(self.cell_number(address)?)
     }
 
     fn put_whole(&mut self, address: CellAddress, word: u32) -> Result<(), Fault> {

@@ -1,19 +1,10 @@
-use Rattle.std.proofs.Common.{sym}
 use Rattle.processor.specs.Limits.{machine_in}
-use Rattle.processor.specs.Results.{effect}
-use Rattle.processor.proofs.Fitting.{registers_if_completed, registers_if_interrupted}
+use Rattle.processor.proofs.Fitting.{registers_if_interrupted}
 use Rattle.processor.proofs.stepping.guarded_step.Goals as goal
-
-pub returns-in-Ok-clause-registers : goal.returns-in-Ok-clause-registers
-returns-in-Ok-clause-registers g c =
-    let m = machine_in (g.S.Store.cells c.args.store.now) c.args.limits c.args.registers.now in
-    let given = c.in-Ok.ensures in
-    rw (c.drop-guard.ensures, c.set_p.ensures, c.p_after.ensures, c.p-p.ensures.value)
-    (registers_if_completed m given.bounded.0 c.p-p.ensures.fits (effect c.attempt.new.registers c.in-Ok.pending) (sym given.tried))
 
 pub returns-clause-registers : goal.returns-clause-registers
 returns-clause-registers g c =
     let m = machine_in (g.S.Store.cells c.args.store.now) c.args.limits c.args.registers.now in
     let given = c.in-Err.ensures in
-    rw (c.drop-guard-2.ensures, c.set_p-in-Err.ensures, c.p_after-in-Err.ensures, c.p-p.ensures.value)
-    (registers_if_interrupted m given.bounded.0 c.p-p.ensures.fits c.in-Err.report (sym given.tried))
+    rw (c.drop-guard-2.ensures, c.set_p.ensures, c.p_after.ensures, c.p-p.ensures.value)
+    (registers_if_interrupted m given.bounded.0 c.p-p.ensures.fits c.in-Err.report given.answer)
