@@ -2,6 +2,7 @@
 ghost use Rattle.std.specs.Prelude.{◌≡◌, replicate};
 ghost use Rattle.engine.specs.Installation.{made};
 ghost use Rattle.engine.specs.Installed.{means};
+ghost use Rattle.engine.specs.Isolation.{Isolation};
 ghost use Rattle.engine.specs.Laws.{NoCellIsShared, NoReportOfNoCell, NoRunEndsInNoCell, RegistersFit, RowKeepsLength, WordsBelowLength, WorkersLieInRow};
 
 use super::Place;
@@ -38,6 +39,7 @@ impl<S: Store> Installation<S> {
         ensures held { NoReportOfNoCell (S.cells store) }
         ensures ran { NoRunEndsInNoCell (S.cells store) }
         ensures addressed { WordsBelowLength (S.cells store) }
+        ensures isolation { Isolation S.cells S.cells }
     {
         Installation {
             store,

@@ -1,5 +1,6 @@
 use Rattle.engine.proofs.Addressed.{words_below_length}
 use Rattle.engine.proofs.Fitted.{registers_fit}
+use Rattle.engine.proofs.Isolated.{isolated}
 use Rattle.engine.proofs.Lawful.{no_cell_shared, row_keeps_length, workers_lie_in_row}
 use Rattle.engine.proofs.Reported.{no_report_of_no_cell, no_run_ends_in_no_cell}
 use Rattle.engine.proofs.installation.Installation.new.Goals as goal
@@ -24,3 +25,6 @@ returns-clause-ran g c = no_run_ends_in_no_cell (g.S.Store.cells c.args.store)
 
 pub returns-clause-addressed : goal.returns-clause-addressed
 returns-clause-addressed g c = words_below_length (g.S.Store.cells c.args.store)
+
+pub returns-clause-isolation : goal.returns-clause-isolation
+returns-clause-isolation g c = λ s t. isolated (g.S.Store.cells s) (g.S.Store.cells t)
