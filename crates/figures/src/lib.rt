@@ -11,15 +11,16 @@ ghost use Rattle.processor.specs.declared.outcome.Ending.TheVariants.{Spent, Int
 ghost use Rattle.processor.specs.declared.report.ReferenceKind.TheVariants.{Fetch, Write};
 ghost use Rattle.processor.specs.declared.report.Report.TheVariants.{IllegalInstruction, Protection, ExecutiveReturn};
 ghost use Rattle.processor.specs.Reports.{relative, told_by};
-ghost use Rattle.engine.specs.declared.answer.Answer.TheVariants.{Admitted, Looked, Saved};
+ghost use Rattle.engine.specs.declared.answer.Answer.TheVariants.{Admitted, Looked, Retired, Saved};
 ghost use Rattle.engine.specs.declared.answer.State.TheVariants.{Held, Ready};
 ghost use Rattle.engine.specs.declared.call.Call.TheVariants.{Ask, Retire};
 ghost use Rattle.engine.specs.declared.call.Request.TheVariants.{Restore, Run, Save, Tell};
 ghost use Rattle.engine.specs.Exchanges.{answers_in, calls_in, exchanges};
-ghost use Rattle.engine.specs.Isolation.{nothing_after_retire, exchanges_with};
+ghost use Rattle.engine.specs.Isolation.{Admits, History, TakenAdmit, answers_to, calls_for, exchanges_with, history, nothing_after_retire, words_found, words_of, would_tell};
 ghost use Rattle.engine.specs.Laws.{Has};
+ghost use Rattle.engine.specs.Replayed.{paired};
 ghost use Rattle.records.specs.Registers.{starting_at};
-ghost use Rattle.figures.specs.Histories.{fixed_addresses, life, mixed, refusals};
+ghost use Rattle.figures.specs.Histories.{LivesLikeIt, alone_admit, alone_calls, alone_row, beside_admit, beside_calls, beside_last, beside_later, beside_row, beside_whole, fixed_addresses, its_calls, its_terms, its_words, its_words_later, life, refusals, seven_in_b2};
 ghost use Rattle.engine.specs.Installation.{made};
 ghost use Rattle.store.specs.declared.half.Half.TheVariants.{Lower};
 ghost use Rattle.figures.specs.Programs.{adding, admit, asked, called, cells, counting, half_spoiled, illegal, jumping, look, number, number_at, number_of_half, ran, record_with, reference, refusal_told, scaling, shifting, told};
@@ -57,7 +58,20 @@ pub fn worked_figures()
     ensures life { exchanges (made (cells 16 [])) (calls_in life) ≡ life }
     ensures refusals { exchanges (made (cells 16 [])) (calls_in refusals) ≡ refusals }
     ensures fixed_addresses { exchanges (made []) (calls_in fixed_addresses) ≡ fixed_addresses }
-    ensures calls_for { calls_in (exchanges_with 0 mixed) ≡ Ask 0 Tell ∷ Retire 0 ∷ [] }
+    ensures paired_again { paired (calls_in life) (answers_in life) ≡ life }
+    ensures alone { Admits 0 its_terms (history alone_row alone_calls) alone_admit }
+    ensures beside { Admits 0 its_terms (history beside_row beside_calls) beside_admit }
+    ensures goes_on { exchanges (made beside_row) (calls_in beside_whole) ≡ beside_whole }
+    ensures with_it { exchanges_with 0 (beside_later ++ beside_last) ≡ its_calls ++ record { call = Retire 0; answer = Retired (Ok tt) } ∷ [] }
+    ensures calls_for { calls_for 0 its_terms beside_admit ≡ calls_in its_calls }
+    ensures answers_to { answers_to 0 its_terms beside_admit ≡ answers_in its_calls }
+    ensures found_alone { words_found 0 its_terms (history alone_row alone_calls) alone_admit ≡ its_words }
+    ensures found_beside { words_found 0 its_terms (history beside_row beside_calls) beside_admit ≡ its_words }
+    ensures told_alone { would_tell 0 (history alone_row alone_calls).left ≡ seven_in_b2 }
+    ensures told_beside { would_tell 0 (history beside_row beside_calls).left ≡ seven_in_b2 }
+    ensures words_alone { words_of 0 its_terms alone_admit (history alone_row alone_calls).left.row ≡ its_words_later }
+    ensures words_beside { words_of 0 its_terms beside_admit (history beside_row beside_calls).left.row ≡ its_words_later }
+    ensures isolated { (h : History) (b : TakenAdmit) → LivesLikeIt h b }
     ensures ends { nothing_after_retire 0 (Ask 0 Tell ∷ Retire 1 ∷ []) ≡ true }
     ensures ends_at_retire { nothing_after_retire 0 (Ask 0 Tell ∷ Retire 0 ∷ []) ≡ true }
     ensures goes_on_after_retire { nothing_after_retire 0 (Retire 0 ∷ Ask 1 Tell ∷ []) ≡ false }

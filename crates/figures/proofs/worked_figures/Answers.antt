@@ -1,4 +1,4 @@
-use Rattle.std.proofs.Common.{refl}
+use Rattle.std.proofs.Common.{refl, sym, ◌∙◌}
 use Rattle.std.specs.Int.Count.{ones}
 use Rattle.words.specs.Bits.{of_bits}
 use Rattle.words.specs.Extension.{extended}
@@ -9,7 +9,7 @@ use Rattle.processor.specs.Repertoire.{operation_of}
 use Rattle.processor.specs.Run.{run}
 use Rattle.processor.specs.Skips.{skip_met, product_skip_met}
 use Rattle.processor.specs.Step.{step, tried, instruction_effect}
-use Rattle.engine.specs.Exchanges.{exchanges}
+use Rattle.engine.specs.Exchanges.{after, exchanges}
 use Rattle.engine.specs.Isolation.{nothing_after_retire, exchanges_with}
 use Rattle.engine.specs.FixedAddress.{fixed_address}
 use Rattle.engine.specs.Performing.{performed}
@@ -17,6 +17,7 @@ use Rattle.engine.specs.Serving.{served}
 use Rattle.words.specs.Scale.{scale_factor, turns_within}
 use Rattle.words.specs.Shifts.{shifted_right_with_sign, turned_left}
 use Rattle.words.specs.Sums.{difference, sum}
+use Rattle.figures.specs.Histories.{alone_admit, its_terms}
 use Rattle.figures.proofs.worked_figures.Goals as goal
 
 pub returns-clause-three_minus_five : goal.returns-clause-three_minus_five
@@ -127,9 +128,63 @@ pub returns-clause-fixed_addresses : goal.returns-clause-fixed_addresses
 unfolding exchanges performed served fixed_address run step tried instruction_effect operation_of skip_met product_skip_met record_of record_read registers_in too_wide
 returns-clause-fixed_addresses c = refl
 
+pub returns-clause-alone : goal.returns-clause-alone
+unfolding exchanges fixed_address performed served run step tried instruction_effect operation_of skip_met product_skip_met computed extended of_bits record_of record_read registers_in too_wide
+returns-clause-alone c = refl
+
+pub returns-clause-beside : goal.returns-clause-beside
+unfolding exchanges fixed_address performed served run step tried instruction_effect operation_of skip_met product_skip_met computed extended of_bits record_of record_read registers_in too_wide
+returns-clause-beside c = refl
+
+pub returns-clause-goes_on : goal.returns-clause-goes_on
+unfolding exchanges fixed_address performed served run step tried instruction_effect operation_of skip_met product_skip_met computed extended of_bits record_of record_read registers_in too_wide
+returns-clause-goes_on c = refl
+
+pub returns-clause-with_it : goal.returns-clause-with_it
+unfolding exchanges_with
+returns-clause-with_it c = refl
+
 pub returns-clause-calls_for : goal.returns-clause-calls_for
 unfolding exchanges_with
 returns-clause-calls_for c = refl
+
+pub returns-clause-answers_to : goal.returns-clause-answers_to
+unfolding exchanges_with
+returns-clause-answers_to c = refl
+
+pub returns-clause-found_alone : goal.returns-clause-found_alone
+unfolding after performed served
+returns-clause-found_alone c = refl
+
+pub returns-clause-found_beside : goal.returns-clause-found_beside
+unfolding after performed served
+returns-clause-found_beside c = refl
+
+pub returns-clause-told_alone : goal.returns-clause-told_alone
+unfolding after fixed_address performed served run step tried instruction_effect operation_of skip_met product_skip_met computed extended of_bits record_of record_read registers_in too_wide
+returns-clause-told_alone c = refl
+
+pub returns-clause-told_beside : goal.returns-clause-told_beside
+unfolding after fixed_address performed served run step tried instruction_effect operation_of skip_met product_skip_met computed extended of_bits record_of record_read registers_in too_wide
+returns-clause-told_beside c = refl
+
+pub returns-clause-words_alone : goal.returns-clause-words_alone
+unfolding after fixed_address performed served run step tried instruction_effect operation_of skip_met product_skip_met computed extended of_bits record_of record_read registers_in too_wide
+returns-clause-words_alone c = refl
+
+pub returns-clause-words_beside : goal.returns-clause-words_beside
+unfolding after fixed_address performed served run step tried instruction_effect operation_of skip_met product_skip_met computed extended of_bits record_of record_read registers_in too_wide
+returns-clause-words_beside c = refl
+
+pub returns-clause-isolated : goal.returns-clause-isolated
+unfolding exchanges_with nothing_after_retire
+returns-clause-isolated c = λ h b isolates admits found.
+    let both = isolates 0 its_terms alone_admit b (returns-clause-alone c) admits (returns-clause-found_alone c ∙ sym found) in (
+      λ k same. sym (both.0 k (sym same)),
+      λ ends same.
+          let seen = both.1 refl ends (sym same) in
+          (sym seen.0 ∙ returns-clause-told_alone c, sym seen.1 ∙ returns-clause-words_alone c),
+    )
 
 pub returns-clause-ends : goal.returns-clause-ends
 unfolding nothing_after_retire
