@@ -19,6 +19,7 @@ pub use answer::{Answer, State, Told};
 pub use call::{Call, Request, Terms};
 pub use fixed::fixed_address;
 pub use installation::Installation;
-pub use place::{Place, Span, Worker};
+pub use place::Span;
+use place::{Place, Worker};
 pub use refusal::Refusal;
 pub use replaying::{OutOfMemory, Replayed, replay_both};
