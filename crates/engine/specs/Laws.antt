@@ -1,5 +1,5 @@
 -- What holds of every call, and after any calls on an installation from its making.
-use Rattle.std.specs.Prelude.{◌≡◌, ◌≢◌, ◌↔◌, ℕ, ◌+◌, ◌<◌, ◌≤◌, true, List, length, map, Option, Some, Ok, slice_set}
+use Rattle.std.specs.Prelude.{◌≡◌, ◌≢◌, ◌↔◌, ℕ, ◌+◌, ◌<◌, ◌≤◌, true, List, length, map, Option, Some, Ok, OnOk, slice_set}
 use Rattle.store.specs.Cells.{Cell, cell_at}
 use Rattle.store.specs.declared.address.CellAddress.{CellAddress}
 use Rattle.store.specs.declared.fault.Fault.TheVariants.{NoCell}
@@ -61,6 +61,11 @@ Restores bytes r = (i : Installation) (p : ℕ) (w : Worker)
     → p ≤ 7
     → worker_at i p ≡ Some w
     → performed i (call.Ask p (request.Restore bytes)) ≡ record { answer = answer.Restored (Ok tt); installation = record i { places = slice_set i.places p (Ready (record w { registers = r })) } }
+
+-- those that a save wrote, if it was taken, restore the registers of the worker that it was asked of
+abbrev pub SavedRestores : Installation → Call (List ℕ) → Answer (List ℕ) → Type 0
+SavedRestores i (call.Ask p what) (answer.Saved saved bytes) = OnOk saved ((w : Worker) → worker_at i p ≡ Some w → Restores bytes w.registers)
+SavedRestores i c a = Unit {0}
 
 -- the causes have the numbers 1 to 5, and no other number is one's
 abbrev pub CausesAreNumbered : Type 0

@@ -3,7 +3,7 @@ ghost use Rattle.std.specs.Prelude.{◌≡◌, Some, vec_items};
 ghost use Rattle.engine.specs.Beneath.{StoreDoes};
 ghost use Rattle.engine.specs.Bytes.{answer_with, call_with, request_with};
 ghost use Rattle.engine.specs.Installed.{Performs, means};
-ghost use Rattle.engine.specs.Laws.{OnlyItsCells, RefusedLeavesAll};
+ghost use Rattle.engine.specs.Laws.{OnlyItsCells, RefusedLeavesAll, SavedRestores};
 ghost use Rattle.engine.specs.Refusals.{refusal_of};
 ghost use Rattle.engine.specs.Sound.{Sound};
 ghost use Rattle.engine.specs.declared.refusal.Refusal.{Refusal};
@@ -19,6 +19,7 @@ impl<S: Store> Installation<S> {
         ensures refused { RefusedLeavesAll (call_with vec_items call) (answer_with vec_items result) self.old self.new }
         ensures other_cells { OnlyItsCells (means S.cells self.old) (call_with vec_items call) (means S.cells self.new) }
         ensures sound { Sound (means S.cells self.new) }
+        ensures restores { SavedRestores (means S.cells self.old) (call_with vec_items call) (answer_with vec_items result) }
         ensures store { StoreDoes S.puts_whole S.puts_half (means S.cells self.old) (call_with vec_items call) self.old.store self.new.store }
     {
         self.dispatch(call)
@@ -29,6 +30,7 @@ impl<S: Store> Installation<S> {
         ensures performed { Performs S.cells self.old (call_with vec_items call) (answer_with vec_items result) self.new }
         ensures refused { (e : Refusal) → refusal_of (answer_with vec_items result) ≡ Some e → self.new ≡ self.old }
         ensures sound { Sound (means S.cells self.old) }
+        ensures restores { SavedRestores (means S.cells self.old) (call_with vec_items call) (answer_with vec_items result) }
         ensures store { StoreDoes S.puts_whole S.puts_half (means S.cells self.old) (call_with vec_items call) self.old.store self.new.store }
     {
         // Opens the installation, so that the proof learns what holds of every one.
@@ -51,6 +53,7 @@ impl<S: Store> Installation<S> {
     #[tactic(auto, using(crate::proofs::Lawful::on_refusal))]
     fn ask(&mut self, place: u32, request: Request<Vec<u8>>) -> Answer<Vec<u8>>
         ensures performed { Performs S.cells self.old (call.Ask place (request_with vec_items request)) (answer_with vec_items result) self.new }
+        ensures restores { SavedRestores (means S.cells self.old) (call.Ask place (request_with vec_items request)) (answer_with vec_items result) }
         ensures refused { (e : Refusal) → refusal_of (answer_with vec_items result) ≡ Some e → self.new ≡ self.old }
         ensures store { StoreDoes S.puts_whole S.puts_half (means S.cells self.old) (call.Ask place (request_with vec_items request)) self.old.store self.new.store }
     {
