@@ -1,4 +1,4 @@
--- Isolation: no worker's answers, state, registers or words depend on where it lies, or on what else the installation is asked to do.
+-- Isolation: no worker's answers, state, registers or words depend on its lower limit, or on what else the installation is asked to do. Its place is the same wherever two are compared.
 use Rattle.std.specs.Prelude.{◌≡◌, ℕ, Bool, true, false, ◌==◌, if◌then◌else◌, List, [], ◌∷◌, ◌++◌, take, Ok}
 use Rattle.store.specs.Cells.{Cell}
 use Rattle.store.specs.declared.address.CellAddress.{CellAddress}
@@ -13,7 +13,7 @@ use Rattle.engine.specs.Exchanges.{Exchange, calls_in, answers_in, exchanges, af
 use Rattle.engine.specs.Installation.{Installation, made}
 use Rattle.engine.specs.Performing.{performed}
 
--- a call names a worker's place, as a call for the worker does: load, look, run, answer, save, restore, tell or retire, but no admit and no span
+-- a call is one for the worker at a place: it asks something of it (load, look, run, answer, save, restore, tell) or retires it. An admit to the place and a span of it are none
 abbrev pub is_for : ℕ → Call (List ℕ) → Bool
 is_for p (call.Admit q lower terms) = false
 is_for p (call.Ask q what) = q == p
@@ -29,7 +29,7 @@ is_retire p (call.Retire q) = q == p
 is_retire p (call.Span q) = false
 is_retire p (call.FixedAddress number cell) = false
 
--- the calls for a worker, with their answers: of the exchanges from just after its admit on, those that name its place, up to and with its retire
+-- the calls for a worker, with their answers: of the exchanges from just after its admit on, those whose call is for the worker at its place, up to and with its retire
 unfoldable pub exchanges_with : ℕ → List Exchange → List Exchange
 exchanges_with p [] = []
 exchanges_with p (e ∷ es) =
@@ -75,7 +75,7 @@ module _ (p : ℕ) (terms : Terms) where
   abbrev pub words_of : TakenAdmit → List Cell → List Cell
   words_of a row = words_in row a.lower.0 terms.length
 
-  -- those that it finds at its admit
+  -- those that it finds at its admit, with the numbers under spoiled marks
   abbrev pub words_found : History → TakenAdmit → List Cell
   words_found h a = words_of a (after (made h.row) (calls_in a.before)).row
 
