@@ -16,7 +16,7 @@ most_words = 32768
 abbrev pub Bounded : Limits → Type 0
 Bounded l = (l.length ≤ most_words) × (l.lower + l.length ≤ most_cells)
 
--- two have a cell in common
+-- each of two has its lower limit below the other's end: where both have cells, they have one in common. Limits with a length of 0 have none, and in this sense share with those whose lower limit is below theirs and whose end is above it
 abbrev pub share : Limits → Limits → Bool
 share s t = nat_lt s.lower (t.lower + t.length) && nat_lt t.lower (s.lower + s.length)
 

@@ -64,7 +64,7 @@ impl Limits {
         self.lower.0 + self.length
     }
 
-    // Is there a cell within both?
+    // Is there a cell within both? It answers so for limits that have cells. Those with a length of 0 have none, and still overlap others whose lower limit is below theirs and whose end is above it.
     pub fn overlap(self, other: Limits) -> bool
         ensures { result ≡ share self other }
     {
