@@ -17,7 +17,7 @@ use Rattle.engine.specs.declared.refusal.Refusal.TheVariants as refusal
 use Rattle.engine.specs.declared.call.Terms.{Terms}
 use Rattle.engine.specs.Exchanges.{Exchange, after, answers_in, calls_in}
 use Rattle.engine.specs.Installation.{made}
-use Rattle.engine.specs.Isolation.{History, Isolates, TakenAdmit, exchanges_with, history, nothing_after_retire}
+use Rattle.engine.specs.Isolation.{History, Isolates, Isolation, TakenAdmit, exchanges_with, history, nothing_after_retire}
 use Rattle.engine.specs.Performing.{performed}
 use Rattle.figures.specs.Programs.{admit, cells, half_spoiled, look, ran, record_with, told}
 
@@ -207,3 +207,7 @@ LivesLikeIt h b =
     × (nothing_after_retire 0 (calls_in b.later) ≡ true
     → calls_in (exchanges_with 0 b.later) ≡ calls_in its_calls
     → ((performed h.left (Ask 0 Tell)).answer ≡ seven_in_b2) × (words_in h.left.row b.lower.0 3 ≡ its_words_later))
+
+-- and by the law any history is isolated from it, over any store with any content, of any calls
+abbrev pub IsIsolatedFromIt : {T : Type 0} → (T → List Cell) → T → List (Call (List ℕ)) → Type 0
+IsIsolatedFromIt cells store calls = Isolation (λ (row : List Cell). row) cells → Isolates (history alone_row alone_calls) (history (cells store) calls)

@@ -1,7 +1,7 @@
 // Worked figures: what the definitions of the machine give in cases that were worked by hand. The checker computes each.
 #![tactic(auto)]
 
-ghost use Rattle.std.specs.Prelude.{◌≡◌, true, false, pos, neg_ℤ, [], ◌∷◌, ◌++◌, map, replicate};
+ghost use Rattle.std.specs.Prelude.{◌≡◌, ℕ, true, false, pos, neg_ℤ, List, [], ◌∷◌, ◌++◌, map, replicate};
 ghost use Rattle.words.specs.Words.{upper_half, lower_half};
 ghost use Rattle.words.specs.Sums.{difference, integer_of, sum};
 ghost use Rattle.words.specs.Shifts.{shifted_right_with_sign, turned_left};
@@ -13,6 +13,7 @@ ghost use Rattle.processor.specs.declared.report.Report.TheVariants.{IllegalInst
 ghost use Rattle.processor.specs.Reports.{relative, told_by};
 ghost use Rattle.engine.specs.declared.answer.Answer.TheVariants.{Admitted, Looked, Retired, Saved};
 ghost use Rattle.engine.specs.declared.answer.State.TheVariants.{Held, Ready};
+ghost use Rattle.engine.specs.declared.call.Call.{Call};
 ghost use Rattle.engine.specs.declared.call.Call.TheVariants.{Ask, Retire};
 ghost use Rattle.engine.specs.declared.call.Request.TheVariants.{Restore, Run, Save, Tell};
 ghost use Rattle.engine.specs.Exchanges.{answers_in, calls_in, exchanges};
@@ -20,8 +21,9 @@ ghost use Rattle.engine.specs.Isolation.{Admits, History, TakenAdmit, answers_to
 ghost use Rattle.engine.specs.Laws.{Has};
 ghost use Rattle.engine.specs.Replayed.{paired};
 ghost use Rattle.records.specs.Registers.{starting_at};
-ghost use Rattle.figures.specs.Histories.{LivesLikeIt, alone_admit, alone_calls, alone_row, beside_admit, beside_calls, beside_last, beside_later, beside_row, beside_whole, fixed_addresses, its_calls, its_terms, its_words, its_words_later, life, refusals, seven_in_b2};
+ghost use Rattle.figures.specs.Histories.{IsIsolatedFromIt, LivesLikeIt, alone_admit, alone_calls, alone_row, beside_admit, beside_calls, beside_last, beside_later, beside_row, beside_whole, fixed_addresses, its_calls, its_terms, its_words, its_words_later, life, refusals, seven_in_b2};
 ghost use Rattle.engine.specs.Installation.{made};
+ghost use Rattle.store.specs.Cells.{Cell};
 ghost use Rattle.store.specs.declared.half.Half.TheVariants.{Lower};
 ghost use Rattle.figures.specs.Programs.{adding, admit, asked, called, cells, counting, half_spoiled, illegal, jumping, look, number, number_at, number_of_half, ran, record_with, reference, refusal_told, scaling, shifting, told};
 
@@ -72,6 +74,7 @@ pub fn worked_figures()
     ensures words_alone { words_of 0 its_terms alone_admit (history alone_row alone_calls).left.row ≡ its_words_later }
     ensures words_beside { words_of 0 its_terms beside_admit (history beside_row beside_calls).left.row ≡ its_words_later }
     ensures isolated { (h : History) (b : TakenAdmit) → LivesLikeIt h b }
+    ensures isolation { (cells : ℕ → List Cell) (store : ℕ) (calls : List (Call (List ℕ))) → IsIsolatedFromIt cells store calls }
     ensures ends { nothing_after_retire 0 (Ask 0 Tell ∷ Retire 1 ∷ []) ≡ true }
     ensures ends_at_retire { nothing_after_retire 0 (Ask 0 Tell ∷ Retire 0 ∷ []) ≡ true }
     ensures goes_on_after_retire { nothing_after_retire 0 (Retire 0 ∷ Ask 1 Tell ∷ []) ≡ false }

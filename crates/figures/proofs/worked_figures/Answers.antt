@@ -17,7 +17,7 @@ use Rattle.engine.specs.Serving.{served}
 use Rattle.words.specs.Scale.{scale_factor, turns_within}
 use Rattle.words.specs.Shifts.{shifted_right_with_sign, turned_left}
 use Rattle.words.specs.Sums.{difference, sum}
-use Rattle.figures.specs.Histories.{alone_admit, its_terms}
+use Rattle.figures.specs.Histories.{alone_admit, alone_calls, alone_row, its_terms}
 use Rattle.figures.proofs.worked_figures.Goals as goal
 
 pub returns-clause-three_minus_five : goal.returns-clause-three_minus_five
@@ -185,6 +185,9 @@ returns-clause-isolated c = λ h b isolates admits found.
           let seen = both.1 refl ends (sym same) in
           (sym seen.0 ∙ returns-clause-told_alone c, sym seen.1 ∙ returns-clause-words_alone c),
     )
+
+pub returns-clause-isolation : goal.returns-clause-isolation
+returns-clause-isolation c = λ cells store calls law. law alone_row store alone_calls calls
 
 pub returns-clause-ends : goal.returns-clause-ends
 unfolding nothing_after_retire
