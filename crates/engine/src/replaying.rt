@@ -5,7 +5,7 @@ ghost use Rattle.engine.specs.Bytes.{asked, given};
 ghost use Rattle.engine.specs.Exchanges.{after, answers_in, exchanges};
 ghost use Rattle.engine.specs.Installation.{made};
 ghost use Rattle.engine.specs.Installed.{means};
-ghost use Rattle.engine.specs.Isolation.{Isolates, Isolation};
+ghost use Rattle.engine.specs.Isolation.{Isolates, Isolation, history};
 ghost use Rattle.engine.specs.Replayed.{returned, Replays};
 
 use super::{Answer, Call, Installation};
@@ -103,6 +103,7 @@ pub fn replay_both<S: Store, T: Store>(
     ensures first { IfOk result (λ both. Replays S.cells S.puts_whole S.puts_half first first_calls both.0) }
     ensures second { IfOk result (λ both. Replays T.cells T.puts_whole T.puts_half second second_calls both.1) }
     ensures isolation { Isolation S.cells T.cells }
+    ensures histories { IfOk result (λ both. (returned S.cells first first_calls both.0 ≡ history (S.cells first) (asked first_calls)) × (returned T.cells second second_calls both.1 ≡ history (T.cells second) (asked second_calls))) }
     ensures isolated { IfOk result (λ both. Isolates (returned S.cells first first_calls both.0) (returned T.cells second second_calls both.1)) }
     ensures out_of_memory { IfErr result (λ lost. (lost.first ≡ first) × (lost.second ≡ second)) }
 {

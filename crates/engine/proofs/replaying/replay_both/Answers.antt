@@ -8,6 +8,12 @@ returns-in-Ok-clause-isolation g c = λ s t. isolated (g.S.Store.cells s) (g.T.S
 pub returns-in-Err-clause-isolation : goal.returns-in-Err-clause-isolation
 returns-in-Err-clause-isolation g c = λ s t. isolated (g.S.Store.cells s) (g.T.Store.cells t)
 
+pub returns-in-Ok-clause-histories : goal.returns-in-Ok-clause-histories
+returns-in-Ok-clause-histories g c =
+    let first = c.replay_new.ensures in
+    let second = c.replay_new-in-Ok.ensures in
+    (told_history _ _ _ _ first.answers first.left, told_history _ _ _ _ second.answers second.left)
+
 pub returns-in-Ok-clause-isolated : goal.returns-in-Ok-clause-isolated
 returns-in-Ok-clause-isolated g c =
     let first = c.replay_new.ensures in
