@@ -1,7 +1,7 @@
-# `make demo` builds the console and plays `examples/rate.script`; `make test` is the gate; `make vectors` writes the vectors of arithmetic anew, and
+# `make demo` builds the console and plays `examples/rate.script`; `make test` is the gate; `make bench` times the console; `make vectors` writes the vectors of arithmetic anew, and
 # `make player-lines` the cases that the player plays.
 # `make cases` has the checker compute the cases in `tools/cases` from the definitions; it is no part of the gate.
-.PHONY: demo test vectors player-lines cases
+.PHONY: demo test bench vectors player-lines cases
 
 demo:
 	@mkdir -p target
@@ -10,6 +10,9 @@ demo:
 
 test:
 	@.ci/run
+
+bench:
+	@tools/bench
 
 vectors:
 	@python3 tools/vectors.py questions > crates/vectors/stdin

@@ -34,6 +34,7 @@ extension half = do
   x ← half
   Ok (extended 15 x)
 
+-- what k makes of the word at ȳ, where it reads one: k of 1, 2, 3, 5 and 6
 abbrev pub picked : ℕ → ℕ → ℕ
 picked k w = by_digit k w (lower_half w) (upper_half w) w w (extended 15 (lower_half w)) (extended 15 (upper_half w)) w
 

@@ -1,4 +1,5 @@
 // The processor that a worker runs on: a worker's program knows its words by relative addresses alone. Its definition is in specs/; a step and a run of the code are proved to be those, over every store.
+// `inline(always)` stands on what a step goes through and several functions call: as a call it would hand its answer over in memory.
 #![tactic(auto)]
 
 mod address;

@@ -50,7 +50,7 @@ fn picked(k: u8, word: Word) -> Word
 }
 
 impl<S: Store> Words<'_, S> {
-    // The operand Y by k.
+    // The operand Y by k. A whole word, which most operands are, is read at a place of its own for speed.
     #[inline(always)]
     pub(crate) fn operand(&self, registers: &Registers, i: &Instruction) -> Result<Word, Report>
         ensures { result ≡ operand (machine_in (S.cells self.now.store.now) self.now.limits registers.now) i.now }
