@@ -49,7 +49,7 @@ of_seven a q p b1 b2 b3 b4 b5 b6 b7 fa fq (f1, (f2, (f3, (f4, (f5, (f6, (f7, _))
       lt-ltb b7 (2 ^ 15) f7,
       lt-ltb p (2 ^ 17) fp,
     )
-    (rw (a-is, q-is, b1-is, b2-is, b3-is, b4-is, b5-is, b6-is, b7-is, p-is) refl)
+    refl
 
 of_list : (a q p : ℕ) (b : List ℕ) → length b ≡ 7 → a < 2 ^ 30 → q < 2 ^ 30 → AllByRecursion (λ x. x < 2 ^ 15) b → p < 2 ^ 17 → ReadsAgain a q b p
 of_list a q p (b1 ∷ b2 ∷ b3 ∷ b4 ∷ b5 ∷ b6 ∷ b7 ∷ []) seven fa fq fb fp = of_seven a q p b1 b2 b3 b4 b5 b6 b7 fa fq fb fp

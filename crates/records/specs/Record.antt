@@ -76,10 +76,14 @@ too_wide bytes =
     (option_or (first_wide 15 (two_at bytes) b_fields)
     (first_wide 17 (four_at bytes) (p_field ∷ [])))
 
+-- what fields tell, if none of them is too wide
+abbrev pub read_if : {X : Type 0} → Option ℕ → X → Result X RecordFault
+read_if (Some offset) told = Err (TooWide offset)
+read_if None told = Ok told
+
 -- reading one from bytes, of which those past the record do not matter
 abbrev pub fields_read : List ℕ → Option ℕ → Result Registers RecordFault
-fields_read bytes (Some offset) = Err (TooWide offset)
-fields_read bytes None = Ok (registers_in bytes)
+fields_read bytes wide = read_if wide (registers_in bytes)
 
 unfoldable pub record_read : List ℕ → Result Registers RecordFault
 record_read bytes =

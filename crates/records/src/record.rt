@@ -1,6 +1,6 @@
 // The register record.
-ghost use Rattle.std.specs.Prelude.{◌≡◌, ◌^◌, ◌<◌, ◌≤◌, ◌+◌, length, nat_lt, take, is_ok, if◌then◌else◌, IfOk, OnOk};
-ghost use Rattle.records.specs.Record.{record_of, record_read, two_at, four_at, write_answer, written};
+ghost use Rattle.std.specs.Prelude.{◌≡◌, ◌^◌, ◌<◌, ◌≤◌, ◌+◌, length, map, nat_lt, take, is_ok, if◌then◌else◌, IfOk, OnOk};
+ghost use Rattle.records.specs.Record.{b_fields, fields_read, first_wide, read_if, record_of, record_read, too_wide, two_at, four_at, write_answer, written};
 ghost use Rattle.records.specs.Registers.{Fits};
 
 use crate::fault::{BufferTooShort, RecordFault};
@@ -46,6 +46,22 @@ fn four_bytes(bytes: &[u8], at: usize, bits: u32) -> Result<u32, RecordFault>
     within(number, bits, at as u32)
 }
 
+// The fields of B1 to B7.
+fn index_fields(bytes: &[u8]) -> Result<[u32; 7], RecordFault>
+    requires { 29 ≤ length bytes.now }
+    ensures { result ≡ read_if (first_wide 15 (two_at bytes.now) b_fields) (map (two_at bytes.now) b_fields) }
+{
+    Ok([
+        two_bytes(bytes, 11)?,
+        two_bytes(bytes, 13)?,
+        two_bytes(bytes, 15)?,
+        two_bytes(bytes, 17)?,
+        two_bytes(bytes, 19)?,
+        two_bytes(bytes, 21)?,
+        two_bytes(bytes, 23)?,
+    ])
+}
+
 impl Registers {
     // The bytes of the record.
     #[tactic(auto, unfolding(crate::specs::Record::record_of))]
@@ -86,8 +102,26 @@ impl Registers {
         Ok(())
     }
 
+    // The registers of a record that is long enough, or the first number that is too wide.
+    #[tactic(auto, unfolding(crate::specs::Record::registers_in, crate::specs::Record::too_wide))]
+    fn fields(bytes: &[u8]) -> Result<Registers, RecordFault>
+        requires { 29 ≤ length bytes.now }
+        ensures { result ≡ fields_read bytes.now (too_wide bytes.now) }
+    {
+        let a = four_bytes(bytes, 3, 30)?;
+        let q = four_bytes(bytes, 7, 30)?;
+        let b = index_fields(bytes)?;
+        let p = four_bytes(bytes, 25, 17)?;
+        Ok(Registers {
+            a: word_bits(a),
+            q: word_bits(q),
+            b,
+            p,
+        })
+    }
+
     // What `read` does, apart from it for the proof of its law.
-    #[tactic(auto, unfolding(crate::specs::Record::record_read, crate::specs::Record::registers_in, crate::specs::Record::too_wide))]
+    #[tactic(auto, unfolding(crate::specs::Record::record_read))]
     fn in_record(bytes: &[u8]) -> Result<Registers, RecordFault>
         ensures { result ≡ record_read bytes.now }
     {
@@ -100,24 +134,7 @@ impl Registers {
         if bytes[2] != VERSION {
             return Err(RecordFault::WrongVersion);
         }
-        let a = four_bytes(bytes, 3, 30)?;
-        let q = four_bytes(bytes, 7, 30)?;
-        let b = [
-            two_bytes(bytes, 11)?,
-            two_bytes(bytes, 13)?,
-            two_bytes(bytes, 15)?,
-            two_bytes(bytes, 17)?,
-            two_bytes(bytes, 19)?,
-            two_bytes(bytes, 21)?,
-            two_bytes(bytes, 23)?,
-        ];
-        let p = four_bytes(bytes, 25, 17)?;
-        Ok(Registers {
-            a: word_bits(a),
-            q: word_bits(q),
-            b,
-            p,
-        })
+        Self::fields(bytes)
     }
 
     // Reads the record at the start of these bytes; those after it do not matter.
