@@ -6,6 +6,7 @@ ghost use Rattle.engine.specs.Refusals.{refusal_of};
 
 use super::kinds::Kind;
 use super::playing::Played;
+use super::trial::Compared;
 use engine::{Answer, Refusal};
 use processor::{Ending, Ran, Report};
 use std::io;
@@ -103,9 +104,11 @@ impl Counts {
         }
     }
 
-    // Counts a store of this kind, and what was played on it.
-    pub(crate) fn count_side(&mut self, kind: Kind, played: &Played) {
-        count(&mut self.stores, kind as usize);
+    // Counts the store that was played on, by its kind, and what was played on it.
+    fn count_side(&mut self, played: &Played) {
+        if let Some(kind) = played.kind {
+            count(&mut self.stores, kind as usize);
+        }
         for answer in played.answers.iter() {
             self.calls_for_workers = self.calls_for_workers.saturating_add(1);
             self.count_answer(answer);
@@ -116,10 +119,13 @@ impl Counts {
         }
     }
 
-    // Counts a trial with so many differences.
-    pub(crate) fn count_trial(&mut self, differences: usize) {
+    // Counts a trial: both its sides, and the differences.
+    pub(crate) fn count_trial(&mut self, compared: &Compared) {
         self.trials = self.trials.saturating_add(1);
-        self.differences = self.differences.saturating_add(differences as u64);
+        self.count_side(&compared.first);
+        self.count_side(&compared.second);
+        let differences = compared.found.len() as u64;
+        self.differences = self.differences.saturating_add(differences);
     }
 
     // Did everything occur that is to occur?

@@ -4,7 +4,7 @@ use super::random::Random;
 use pairs::Rule;
 use std::fmt;
 
-// Those made of two others are named by their rule and by what they are made of.
+// Those made of two others are named by their rule and by what they are made of. The last stands only in pairs of pairs.
 #[derive(Clone, Copy, Debug, PartialEq, Eq)]
 pub(crate) enum Kind {
     Word,
@@ -14,9 +14,11 @@ pub(crate) enum Kind {
     InterleavedParities,
     ContinuousOfPairs,
     InterleavedOfPairs,
+    ContinuousParities,
 }
 
 impl Kind {
+    // Those that are drawn.
     pub(crate) const ALL: [Kind; 7] = [
         Kind::Word,
         Kind::Parity,
@@ -37,11 +39,30 @@ impl Kind {
             Kind::Interleaved | Kind::InterleavedParities | Kind::InterleavedOfPairs => {
                 Rule::Interleaved
             }
-            Kind::Word | Kind::Parity | Kind::Continuous | Kind::ContinuousOfPairs => {
-                Rule::Continuous
-            }
+            Kind::Word
+            | Kind::Parity
+            | Kind::Continuous
+            | Kind::ContinuousOfPairs
+            | Kind::ContinuousParities => Rule::Continuous,
         };
         Plan { rule, seam }
+    }
+
+    // The kind of a pair by this rule of stores of these kinds, if it is one of them.
+    pub(crate) fn of_pair(rule: Rule, first: Kind, second: Kind) -> Option<Kind> {
+        match (rule, first, second) {
+            (Rule::Continuous, Kind::Word, Kind::Parity) => Some(Kind::Continuous),
+            (Rule::Interleaved, Kind::Word, Kind::Parity) => Some(Kind::Interleaved),
+            (Rule::Continuous, Kind::Parity, Kind::Parity) => Some(Kind::ContinuousParities),
+            (Rule::Interleaved, Kind::Parity, Kind::Parity) => Some(Kind::InterleavedParities),
+            (Rule::Continuous, Kind::InterleavedParities, Kind::Interleaved) => {
+                Some(Kind::ContinuousOfPairs)
+            }
+            (Rule::Interleaved, Kind::ContinuousParities, Kind::Continuous) => {
+                Some(Kind::InterleavedOfPairs)
+            }
+            _ => None,
+        }
     }
 }
 
@@ -55,6 +76,7 @@ impl fmt::Display for Kind {
             Kind::InterleavedParities => write!(f, "two parity stores in turn"),
             Kind::ContinuousOfPairs => write!(f, "two interleaved pairs, one after the other"),
             Kind::InterleavedOfPairs => write!(f, "two continuous pairs in turn"),
+            Kind::ContinuousParities => write!(f, "two parity stores, one after the other"),
         }
     }
 }

@@ -1,5 +1,6 @@
 // Stores of several kinds, made of cells.
 use super::cells::{Cell, HalfCell};
+use super::kinds::Kind;
 use pairs::{Pair, Rule};
 use std::alloc::{AllocError, Global};
 use store::Store;
@@ -25,6 +26,9 @@ pub(crate) trait Laid: Store + Drop {
     fn over(heap: Global, cells: &[Cell], plan: Plan) -> Result<Self, AllocError>
     where
         Self: Sized;
+
+    // The kind that it is.
+    fn kind(&self) -> Option<Kind>;
 }
 
 fn word_number(cell: Cell) -> u32 {
@@ -48,6 +52,10 @@ impl Laid for WordStore {
         let numbers = cells.iter().map(|cell| word_number(*cell)).collect(heap)?;
         Ok(WordStore::new(numbers))
     }
+
+    fn kind(&self) -> Option<Kind> {
+        Some(Kind::Word)
+    }
 }
 
 impl Laid for ParityStore {
@@ -58,6 +66,10 @@ impl Laid for ParityStore {
             numbers.push(half_number(cell.lower))?;
         }
         Ok(ParityStore::new(numbers))
+    }
+
+    fn kind(&self) -> Option<Kind> {
+        Some(Kind::Parity)
     }
 }
 
@@ -103,5 +115,9 @@ impl<F: Laid, S: Laid> Laid for Pair<F, S> {
             first: F::over(heap, first.as_slice(), plan.within())?,
             second: S::over(heap, second.as_slice(), plan.within())?,
         })
+    }
+
+    fn kind(&self) -> Option<Kind> {
+        Kind::of_pair(self.rule, self.first.kind()?, self.second.kind()?)
     }
 }

@@ -23,9 +23,10 @@ pub(crate) struct Side {
     pub(crate) history: History,
 }
 
-// What came of a history: the answers to the calls for the worker and those to the others, what tell says at the end, and the worker's words.
+// What came of a history: the kind of the store that it was played on, the answers to the calls for the worker and those to the others, what tell says at the end, and the worker's words.
 #[derive(Drop)]
 pub(crate) struct Played {
+    pub(crate) kind: Option<Kind>,
     pub(crate) answers: Vec<Answer<Vec<u8>>>,
     pub(crate) other_answers: Vec<Answer<Vec<u8>>>,
     pub(crate) told: Result<Told, Refusal>,
@@ -34,7 +35,7 @@ pub(crate) struct Played {
 
 impl Played {
     // Parts the answers, and looks at the worker's place and its words.
-    fn read<S: Store + Drop>(
+    fn read<S: Laid>(
         heap: Global,
         replayed: Replayed<S>,
         whose: &[Whose],
@@ -54,8 +55,10 @@ impl Played {
             }
         }
         let told = installation.tell(place);
-        let words = words_of(heap, &installation.into_store(), layout)?;
+        let store = installation.into_store();
+        let words = words_of(heap, &store, layout)?;
         Ok(Played {
+            kind: store.kind(),
             answers,
             other_answers,
             told,
@@ -118,7 +121,9 @@ fn play_from<S: Laid>(
         Kind::Word => play_on::<S, WordStore>(heap, place, first, second),
         Kind::Parity => play_on::<S, ParityStore>(heap, place, first, second),
         Kind::Continuous | Kind::Interleaved => play_on::<S, Mixed>(heap, place, first, second),
-        Kind::InterleavedParities => play_on::<S, Parities>(heap, place, first, second),
+        Kind::InterleavedParities | Kind::ContinuousParities => {
+            play_on::<S, Parities>(heap, place, first, second)
+        }
         Kind::ContinuousOfPairs | Kind::InterleavedOfPairs => {
             play_on::<S, Pair<Parities, Mixed>>(heap, place, first, second)
         }
@@ -136,7 +141,9 @@ pub(crate) fn play(
         Kind::Word => play_from::<WordStore>(heap, place, first, second),
         Kind::Parity => play_from::<ParityStore>(heap, place, first, second),
         Kind::Continuous | Kind::Interleaved => play_from::<Mixed>(heap, place, first, second),
-        Kind::InterleavedParities => play_from::<Parities>(heap, place, first, second),
+        Kind::InterleavedParities | Kind::ContinuousParities => {
+            play_from::<Parities>(heap, place, first, second)
+        }
         Kind::ContinuousOfPairs | Kind::InterleavedOfPairs => {
             play_from::<Pair<Parities, Mixed>>(heap, place, first, second)
         }
