@@ -1,5 +1,6 @@
 mod Digits
 mod Following
+mod Hexadecimal
 mod Later
 mod Lines
 mod Parts

@@ -1,7 +1,8 @@
 // The calls of a script, and how words make one.
 #![tactic(auto, using(crate::proofs::Texts::length_texts, crate::proofs::Texts::text_at))]
 
-ghost use Rattle.std.specs.Prelude.{◌≡◌, IsOk, IsTrue, vec_items};
+ghost use Rattle.std.specs.Prelude.{◌≡◌, IsOk, IsTrue, is_ok, vec_items};
+ghost use Rattle.hex.specs.Hex.{decode_of};
 ghost use Rattle.engine.specs.Bytes.{call_with};
 ghost use Rattle.script.specs.Calls.{read_call, buffer_of, bytes_of, admit_call, load_call, look_call, run_call, answer_call, save_call, restore_call, tell_call, retire_call, span_call, fixed_call, plain_call};
 ghost use Rattle.script.specs.Failure.{Gives, ran_out};
@@ -11,7 +12,6 @@ use crate::failure::Failure;
 use crate::number::{read_number, read_number_up_to};
 use crate::reason::Reason;
 use engine::{Call, Request, Terms};
-use hex::FromHexError;
 use processor::RelativeAddress;
 use std::alloc::{AllocError, Global};
 use store::CellAddress;
@@ -29,17 +29,28 @@ fn read_buffer(heap: Global, word: &[u8]) -> Result<Vec<u8>, Failure<Reason>>
     Ok(buffer)
 }
 
+// Pairs of hexadecimal digits, and nothing else?
+fn is_hexadecimal(word: &[u8]) -> bool
+    ensures { result ≡ is_ok (decode_of word.now) }
+{
+    word.len() % 2 == 0 && word.iter().all(|byte| byte.is_ascii_hexdigit())
+}
+
 // HEX
 fn read_bytes(heap: Global, word: &[u8]) -> Result<Vec<u8>, Failure<Reason>>
-    ensures { Gives vec_items result (bytes_of word.now) }
+    ensures value { Gives vec_items result (bytes_of word.now) }
+    ensures out_of_memory { IsTrue (ran_out result) → IsOk (bytes_of word.now) }
 {
     if word == b"-".as_slice() {
         return Ok(Vec::new(heap));
     }
+    if !is_hexadecimal(word) {
+        return Err(Reason::NotANumber.into());
+    }
+    // Such a word is decoded unless memory is wanting.
     match hex::decode(heap, word) {
         Ok(bytes) => Ok(bytes),
-        Err(FromHexError::OutOfMemory) => Err(Failure::OutOfMemory(AllocError)),
-        Err(_) => Err(Failure::Wrong(Reason::NotANumber)),
+        Err(_) => Err(Failure::OutOfMemory(AllocError)),
     }
 }
 
@@ -142,7 +153,8 @@ pub(crate) fn save(heap: Global, args: &[&[u8]]) -> Result<Call<Vec<u8>>, Failur
 
 // restore PLACE HEX
 pub(crate) fn restore(heap: Global, args: &[&[u8]]) -> Result<Call<Vec<u8>>, Failure<Reason>>
-    ensures { Gives (call_with vec_items) result (restore_call (texts args.now)) }
+    ensures value { Gives (call_with vec_items) result (restore_call (texts args.now)) }
+    ensures out_of_memory { IsTrue (ran_out result) → IsOk (restore_call (texts args.now)) }
 {
     let [place, bytes] = args else {
         return Err(Reason::WordCount.into());

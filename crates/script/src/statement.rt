@@ -1,8 +1,8 @@
 // The statements of a script, and how words make one.
 #![tactic(auto, using(crate::proofs::Texts::length_texts, crate::proofs::Texts::text_at))]
 
-ghost use Rattle.std.specs.Prelude.{◌≡◌};
-ghost use Rattle.script.specs.Failure.{Gives};
+ghost use Rattle.std.specs.Prelude.{◌≡◌, IsOk, IsTrue};
+ghost use Rattle.script.specs.Failure.{Gives, ran_out};
 ghost use Rattle.script.specs.Line.{texts};
 ghost use Rattle.script.specs.Statement.{statement_seen, read_statement, half_of, kind_of, size_of, part_of, single_statement, pair_statement, layout_statement, memory_statement, damage_statement, raw_statement, count_statement, fetch_statement, put_statement, put_half_statement, install_statement, plain_statement, named_statement, statement_of};
 
@@ -234,7 +234,8 @@ fn read_named(
     name: &[u8],
     args: &[&[u8]],
 ) -> Result<Statement<Vec<u8>>, Failure<Reason>>
-    ensures { Gives statement_seen result (named_statement name.now (texts args.now)) }
+    ensures value { Gives statement_seen result (named_statement name.now (texts args.now)) }
+    ensures out_of_memory { IsTrue (ran_out result) → IsOk (named_statement name.now (texts args.now)) }
 {
     if name == b"save".as_slice() {
         Ok(Statement::Call(call::save(heap, args)?))
@@ -248,7 +249,8 @@ fn read_named(
 // The statement that the words of a line make.
 #[tactic(auto, using(crate::proofs::Texts::texts_short, crate::proofs::Texts::texts_first), unfolding(crate::specs::Statement::statement_of))]
 pub fn read_statement(heap: Global, words: &[&[u8]]) -> Result<Statement<Vec<u8>>, Failure<Reason>>
-    ensures { Gives statement_seen result (statement_of (texts words.now)) }
+    ensures value { Gives statement_seen result (statement_of (texts words.now)) }
+    ensures out_of_memory { IsTrue (ran_out result) → IsOk (statement_of (texts words.now)) }
 {
     let [name, args @ ..] = words else {
         return Err(Reason::WordCount.into());
