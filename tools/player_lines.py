@@ -10,6 +10,11 @@ import sys
 
 CASES = os.path.join(os.path.dirname(os.path.abspath(__file__)), "cases")
 
+# The kinds of stores, and over which of them a line of each file is played.
+STORES = ["word stores", "interleaved pairs of parity stores", "such pairs with a parity store behind them"]
+
+PLAYED_OVER = {"steps": (0, 1), "runs": (0, 1), "histories": (0, 2)}
+
 # Of each kind, how many fields a case has without its results.
 FIELDS = {"steps": 4, "runs": 5}
 
@@ -21,6 +26,10 @@ def text_of(kind):
 
 def lines_of(kind):
     return [line for line in text_of(kind).splitlines() if line and not line.startswith("#")]
+
+
+def case_lines(kind, whole):
+    return [line if whole else " | ".join(line.split(" | ")[: FIELDS[kind]]) for line in lines_of(kind)]
 
 
 def history_line(history, whole):
@@ -38,16 +47,26 @@ def history_lines(whole):
     return [history_line(history, whole) for history in text_of("histories").strip().split("\n\n")[1:]]
 
 
+def play_lines(numbers):
+    """How many plays there are over stores of each kind, by the numbers of lines of each file."""
+    for index, store in enumerate(STORES):
+        plays = sum(number for kind, number in numbers.items() if index in PLAYED_OVER[kind])
+        yield f"plays over {store}: {plays}"
+
+
 def main(arguments):
     if arguments not in (["questions"], ["answers"]):
         print("usage: player_lines.py questions | answers", file=sys.stderr)
         return 2
     whole = arguments == ["answers"]
-    for kind, fields in FIELDS.items():
-        for line in lines_of(kind):
-            print(line if whole else " | ".join(line.split(" | ")[:fields]))
-    for line in history_lines(whole):
-        print(line)
+    lines = {kind: case_lines(kind, whole) for kind in FIELDS}
+    lines["histories"] = history_lines(whole)
+    for kind in lines:
+        for line in lines[kind]:
+            print(line)
+    if whole:
+        for line in play_lines({kind: len(lines[kind]) for kind in lines}):
+            print(line)
     return 0
 
 

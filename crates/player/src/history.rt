@@ -4,6 +4,7 @@ use super::calls::read_call;
 use super::case::read_words;
 use super::cell::Cell;
 use super::memory::Laid;
+use super::plays::Plays;
 use super::problem::Problem;
 use engine::{Answer, Call, Installation};
 use pairs::Pair;
@@ -61,21 +62,25 @@ fn read_calls(heap: Global, text: &str) -> Result<Vec<Call<Vec<u8>>>, Problem> {
 }
 
 // Plays a history on a store of this type.
-fn play_on<S: Laid>(heap: Global, line: &str) -> Result<PlayedHistory, Problem> {
+fn play_on<S: Laid>(heap: Global, plays: &mut Plays, line: &str) -> Result<PlayedHistory, Problem> {
     let (row, calls) = fields_of(line).ok_or(Problem::NoCase)?;
     let row = read_words(heap, row)?;
     let calls = read_calls(heap, calls)?;
-    let mut installation = Installation::new(S::over(heap, row.as_slice())?);
+    let store = S::over(heap, row.as_slice())?;
+    plays.count(store.kind());
+    let mut installation = Installation::new(store);
     let answers = installation.replay(heap, calls)?;
     let row = installation.into_store().into_cells(heap)?;
     Ok(PlayedHistory { answers, row })
 }
 
 // What the history of a line gives, over two kinds of stores.
-pub(crate) fn play_history(heap: Global, line: &str) -> Result<PlayedHistory, Problem> {
-    let played = play_on::<WordStore>(heap, line)?;
-    if played != play_on::<WithOddLast>(heap, line)? {
-        return Err(Problem::PlaysDiffer);
-    }
-    Ok(played)
+pub(crate) fn play_history(
+    heap: Global,
+    plays: &mut Plays,
+    line: &str,
+) -> Result<PlayedHistory, Problem> {
+    let first = play_on::<WordStore>(heap, plays, line)?;
+    let second = play_on::<WithOddLast>(heap, plays, line)?;
+    plays.one_of(first, second)
 }

@@ -1,5 +1,6 @@
 // Stores made of cells, and the cells that their memories' numbers are, read here without the stores.
 use super::cell::{Cell, HalfCell};
+use super::kinds::Kind;
 use pairs::{Pair, Rule};
 use std::alloc::{AllocError, Global};
 use store::Store;
@@ -19,6 +20,9 @@ pub(crate) trait Laid: Store + Drop {
     fn over(heap: Global, cells: &[Cell]) -> Result<Self, AllocError>
     where
         Self: Sized;
+
+    // The kind that it is.
+    fn kind(&self) -> Kind;
 
     // The cells that its memory has, one that is none of the row's too.
     fn into_cells(self, heap: Global) -> Result<Vec<Cell>, AllocError>
@@ -49,6 +53,10 @@ impl Laid for WordStore {
     fn over(heap: Global, cells: &[Cell]) -> Result<Self, AllocError> {
         let numbers = cells.iter().map(|cell| word_number(*cell)).collect(heap)?;
         Ok(WordStore::new(numbers))
+    }
+
+    fn kind(&self) -> Kind {
+        Kind::Words
     }
 
     fn into_cells(self, heap: Global) -> Result<Vec<Cell>, AllocError> {
@@ -126,6 +134,10 @@ impl Laid for Pair<ParityStore, ParityStore> {
         })
     }
 
+    fn kind(&self) -> Kind {
+        Kind::Parities
+    }
+
     fn into_cells(self, heap: Global) -> Result<Vec<Cell>, AllocError> {
         let Pair { first, second, .. } = self;
         let even = parity_cells(heap, first)?;
@@ -151,6 +163,10 @@ impl Laid for Pair<Pair<ParityStore, ParityStore>, ParityStore> {
             first: Pair::over(heap, even)?,
             second: parity_store(heap, last)?,
         })
+    }
+
+    fn kind(&self) -> Kind {
+        Kind::ParitiesAndLast
     }
 
     fn into_cells(self, heap: Global) -> Result<Vec<Cell>, AllocError> {

@@ -3,6 +3,7 @@ use super::case::{Case, Task, read_case};
 use super::cell::Cell;
 use super::memory::Laid;
 use super::outcome::Outcome;
+use super::plays::Plays;
 use super::problem::Problem;
 use super::registers::Written;
 use super::surroundings::Surroundings;
@@ -60,10 +61,16 @@ impl Task {
 
 impl Surroundings {
     // Plays a case on a store that has the worker's words among these cells, which have to be as they were.
-    fn play<S: Laid>(self, heap: Global, case: &Case) -> Result<Played, Problem> {
+    fn play<S: Laid>(
+        self,
+        heap: Global,
+        plays: &mut Plays,
+        case: &Case,
+    ) -> Result<Played, Problem> {
         let limits = Limits::new(CellAddress(self.before), case.length).ok_or(Problem::NoCase)?;
         let row = self.around(heap, case.words.as_slice())?;
         let mut store = S::over(heap, row.as_slice())?;
+        plays.count(store.kind());
         let mut registers = case.registers;
         let outcome = case.task.play(&mut store, limits, &mut registers);
         let row = store.into_cells(heap)?;
@@ -73,8 +80,12 @@ impl Surroundings {
             .skip(self.before as usize)
             .take(case.length as usize)
             .collect(heap)?;
-        if row != self.around(heap, words.as_slice())? {
+        let (row, words_now) = (row.as_slice(), words.as_slice());
+        if !self.are_around(heap, row, words_now)? {
             return Err(Problem::OtherCellChanged);
+        }
+        if self.others().are_around(heap, row, words_now)? {
+            return Err(Problem::OtherCellsNotSeen);
         }
         Ok(Played {
             outcome,
@@ -85,11 +96,9 @@ impl Surroundings {
 }
 
 // What the case of a line gives, over two kinds of stores.
-pub(crate) fn play_line(heap: Global, line: &str) -> Result<Played, Problem> {
+pub(crate) fn play_line(heap: Global, plays: &mut Plays, line: &str) -> Result<Played, Problem> {
     let case = read_case(heap, line)?;
-    let played = IN_WORD_STORE.play::<WordStore>(heap, &case)?;
-    if played != IN_PAIR.play::<Pair<ParityStore, ParityStore>>(heap, &case)? {
-        return Err(Problem::PlaysDiffer);
-    }
-    Ok(played)
+    let first = IN_WORD_STORE.play::<WordStore>(heap, plays, &case)?;
+    let second = IN_PAIR.play::<Pair<ParityStore, ParityStore>>(heap, plays, &case)?;
+    plays.one_of(first, second)
 }

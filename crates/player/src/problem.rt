@@ -9,6 +9,8 @@ pub(crate) enum Problem {
     OutOfMemory,
     // a play changed a cell that is none of the worker's
     OtherCellChanged,
+    // where those cells are compared, others are taken for them
+    OtherCellsNotSeen,
     // two plays over different stores gave different results
     PlaysDiffer,
 }
@@ -19,6 +21,7 @@ impl fmt::Display for Problem {
             Problem::NoCase => write!(f, "no case"),
             Problem::OutOfMemory => write!(f, "out of memory"),
             Problem::OtherCellChanged => write!(f, "another cell changed"),
+            Problem::OtherCellsNotSeen => write!(f, "other cells are taken for those around"),
             Problem::PlaysDiffer => write!(f, "two plays differ"),
         }
     }

@@ -39,4 +39,23 @@ impl Surroundings {
         }
         Ok(row)
     }
+
+    // Is a row the one that these words and these cells make?
+    pub(crate) fn are_around(
+        self,
+        heap: Global,
+        row: &[Cell],
+        words: &[Cell],
+    ) -> Result<bool, AllocError> {
+        let expected = self.around(heap, words)?;
+        Ok(row == expected.as_slice())
+    }
+
+    // As many other cells.
+    pub(crate) fn others(self) -> Surroundings {
+        Surroundings {
+            seed: self.seed.wrapping_add(2),
+            ..self
+        }
+    }
 }
