@@ -19,7 +19,6 @@ use crate::statement::{Statement, read_statement};
 use crate::transcript::write_line;
 use std::alloc::Global;
 use std::marker::Model;
-use std::mem;
 
 // The heap comes with each call: as a field it would be asked of whoever calls `new`.
 #[derive(Drop)]
@@ -58,10 +57,7 @@ impl Session {
         ensures out_of_memory { IsTrue (ran_out result) → (self.old ≡ nothing) × (answered nothing (statement_seen statement) ≡ Ok Done) }
         ensures after { self.new ≡ (if ran_out result then self.old else left self.old (statement_seen statement)) }
     {
-        let stage = mem::replace(&mut self.stage, Stage::Nothing);
-        let (stage, answer) = stage.after(heap, statement);
-        self.stage = stage;
-        answer
+        self.stage.perform(heap, statement)
     }
 
     // Plays the `number`th line of a script: the transcript's line, or nothing where it has no words.

@@ -1,8 +1,12 @@
 // What a session has: nothing yet, memories, or an installation over them; and what a statement makes of that.
-ghost use Rattle.std.specs.Prelude.{◌≡◌, if◌then◌else◌, IsTrue, Ok, false};
+ghost use Rattle.std.specs.Prelude.{◌≡◌, if◌then◌else◌, IsTrue, Ok, Err, false};
 ghost use Rattle.script.specs.declared.answer.Answer.TheVariants.{Done};
+ghost use Rattle.script.specs.declared.reason.Reason.TheVariants.{OutOfRange};
 ghost use Rattle.script.specs.Failure.{Gives, ran_out};
-ghost use Rattle.script.specs.Session.{nothing, installed, answered, left, answered_before, left_before, answered_on, left_on, answered_in, left_of};
+ghost use Rattle.engine.specs.Installation.{made};
+ghost use Rattle.memories.specs.Any.{Memories, row_of};
+ghost use Rattle.memories.specs.Setup.{can_damage, damaged};
+ghost use Rattle.script.specs.Session.{nothing, with_memories, installed, answered, left, answered_before, left_before, answered_in, left_of};
 ghost use Rattle.script.specs.Stage.{installation_of, state_of};
 ghost use Rattle.script.specs.Statement.{statement_seen};
 ghost use Rattle.script.specs.Transcript.{answer_seen};
@@ -12,8 +16,9 @@ use crate::failure::Failure;
 use crate::installed::AnyInstallation;
 use crate::reason::Reason;
 use crate::statement::Statement;
-use memories::Setup;
+use memories::{Setup, Side};
 use std::alloc::Global;
+use std::mem;
 
 #[derive(Drop)]
 pub(crate) enum Stage {
@@ -25,17 +30,47 @@ pub(crate) enum Stage {
 type Outcome = Result<Answer<Vec<u8>>, Failure<Reason>>;
 
 impl Stage {
-    // The stage after a statement, and what it answers. Memory can run out only for a new memory, and then everything stays.
-    pub(crate) fn after(self, heap: Global, statement: Statement<Vec<u8>>) -> (Stage, Outcome)
-        ensures answer { Gives answer_seen result.1 (answered (state_of self) (statement_seen statement)) }
-        ensures out_of_memory { IsTrue (ran_out result.1) → (state_of self ≡ nothing) × (answered nothing (statement_seen statement) ≡ Ok Done) }
-        ensures after { state_of result.0 ≡ (if ran_out result.1 then state_of self else left (state_of self) (statement_seen statement)) }
+    // Does a statement, in place: an installation is large to move. Memory can run out only for a new memory, and then everything stays.
+    pub(crate) fn perform(&mut self, heap: Global, statement: Statement<Vec<u8>>) -> Outcome
+        ensures answer { Gives answer_seen result (answered (state_of self.old) (statement_seen statement)) }
+        ensures out_of_memory { IsTrue (ran_out result) → (state_of self.old ≡ nothing) × (answered nothing (statement_seen statement) ≡ Ok Done) }
+        ensures after { state_of self.new ≡ (if ran_out result then state_of self.old else left (state_of self.old) (statement_seen statement)) }
     {
         match self {
-            Stage::Nothing => after_nothing(heap, statement),
-            Stage::Memories(setup) => after_memories(setup, statement),
-            Stage::Installed(installation) => after_installation(installation, statement),
+            Stage::Nothing => self.begin(heap, statement),
+            // Once there is a memory, all but another `memory` and calls can be done.
+            Stage::Memories(setup) => match statement {
+                Statement::Memory(_) => Err(Reason::SecondMemory.into()),
+                Statement::Raw { side, index, value } => damage(setup, side, index, value),
+                Statement::Operation(operation) => Ok(Answer::Reply(setup.perform(operation))),
+                Statement::Install => self.install(),
+                Statement::Call(_) => Err(Reason::NoInstallation.into()),
+            },
+            Stage::Installed(installation) => call(installation, statement),
         }
+    }
+
+    // Puts in its place what a statement makes of no memory.
+    fn begin(&mut self, heap: Global, statement: Statement<Vec<u8>>) -> Outcome
+        ensures answer { Gives answer_seen result (answered_before (statement_seen statement)) }
+        ensures out_of_memory { IsTrue (ran_out result) → answered_before (statement_seen statement) ≡ Ok Done }
+        ensures after { state_of self.new ≡ (if ran_out result then nothing else left_before (statement_seen statement)) }
+    {
+        let (stage, answer) = after_nothing(heap, statement);
+        *self = stage;
+        answer
+    }
+
+    // Makes an installation over the memories, if there are any.
+    fn install(&mut self) -> Outcome
+        ensures answer { result ≡ Ok Done }
+        ensures after { (ms : Memories) → state_of self.old ≡ with_memories ms → state_of self.new ≡ installed (made (row_of ms)) }
+    {
+        *self = match mem::replace(self, Stage::Nothing) {
+            Stage::Memories(setup) => Stage::Installed(AnyInstallation::over(setup)),
+            stage => stage,
+        };
+        Ok(Answer::Done)
     }
 }
 
@@ -57,47 +92,26 @@ fn after_nothing(heap: Global, statement: Statement<Vec<u8>>) -> (Stage, Outcome
     }
 }
 
-// Once there is a memory, all but another `memory` and calls can be done.
-fn after_memories(mut setup: Setup, statement: Statement<Vec<u8>>) -> (Stage, Outcome)
-    ensures answer { Gives answer_seen result.1 (answered_on setup (statement_seen statement)) }
-    ensures out_of_memory { ran_out result.1 ≡ false }
-    ensures after { state_of result.0 ≡ left_on setup (statement_seen statement) }
+// Damages the memories.
+fn damage(setup: &mut Setup, side: Side, index: u32, value: u32) -> Outcome
+    ensures answer { Gives answer_seen result (if can_damage setup.old side index value then Ok Done else Err OutOfRange) }
+    ensures out_of_memory { ran_out result ≡ false }
+    ensures after { setup.new ≡ (if can_damage setup.old side index value then damaged setup.old side index value else setup.old) }
 {
-    match statement {
-        Statement::Memory(_) => (Stage::Memories(setup), Err(Reason::SecondMemory.into())),
-        Statement::Raw { side, index, value } => match setup.replace_number(side, index, value) {
-            Ok(()) => (Stage::Memories(setup), Ok(Answer::Done)),
-            Err(error) => (Stage::Memories(setup), Err(Reason::from(error).into())),
-        },
-        Statement::Operation(operation) => {
-            let reply = setup.perform(operation);
-            (Stage::Memories(setup), Ok(Answer::Reply(reply)))
-        }
-        Statement::Install => (
-            Stage::Installed(AnyInstallation::over(setup)),
-            Ok(Answer::Done),
-        ),
-        Statement::Call(_) => (Stage::Memories(setup), Err(Reason::NoInstallation.into())),
+    match setup.replace_number(side, index, value) {
+        Ok(()) => Ok(Answer::Done),
+        Err(error) => Err(Reason::from(error).into()),
     }
 }
 
 // Once there is an installation, only calls can be done.
-fn after_installation(
-    mut installation: AnyInstallation,
-    statement: Statement<Vec<u8>>,
-) -> (Stage, Outcome)
-    ensures answer { Gives answer_seen result.1 (answered_in (installation_of installation) (statement_seen statement)) }
-    ensures out_of_memory { ran_out result.1 ≡ false }
-    ensures after { state_of result.0 ≡ installed (left_of (installation_of installation) (statement_seen statement)) }
+fn call(installation: &mut AnyInstallation, statement: Statement<Vec<u8>>) -> Outcome
+    ensures answer { Gives answer_seen result (answered_in (installation_of installation.old) (statement_seen statement)) }
+    ensures out_of_memory { ran_out result ≡ false }
+    ensures after { installation_of installation.new ≡ left_of (installation_of installation.old) (statement_seen statement) }
 {
     match statement {
-        Statement::Call(call) => {
-            let answer = installation.perform(call);
-            (Stage::Installed(installation), Ok(Answer::Call(answer)))
-        }
-        _ => (
-            Stage::Installed(installation),
-            Err(Reason::Installed.into()),
-        ),
+        Statement::Call(call) => Ok(Answer::Call(installation.perform(call))),
+        _ => Err(Reason::Installed.into()),
     }
 }
