@@ -1,5 +1,5 @@
 -- The grammar of statements: a name, and the words that it takes.
-use Rattle.std.specs.Prelude.{ℕ, List, [], ◌∷◌, drop, Vec, if◌then◌else◌, Ok, Err, codes, Result, vec_items}
+use Rattle.std.specs.Prelude.{ℕ, ◌||◌, Bool, false, List, [], ◌∷◌, drop, Vec, if◌then◌else◌, Ok, Err, codes, Result, vec_items}
 use Rattle.std.specs.Str.{bytes_eq}
 use Rattle.std.specs.declared.alloc.Global.{Global}
 use Rattle.store.specs.declared.half.Half.{Half}
@@ -153,6 +153,11 @@ named_statement name args =
     if bytes_eq name (codes "save") then call_statement (save_call args)
     else (if bytes_eq name (codes "restore") then call_statement (restore_call args)
     else plain_statement name args)
+
+-- Do the words of a line, the name first, make a statement that carries bytes? Only such a one needs memory.
+abbrev pub carries_bytes : List (List ℕ) → Bool
+carries_bytes [] = false
+carries_bytes (name ∷ args) = bytes_eq name (codes "save") || bytes_eq name (codes "restore")
 
 -- the statement that the words of a line make, the name first
 unfoldable pub statement_of : List (List ℕ) → Result (Statement (List ℕ)) Reason

@@ -6,7 +6,7 @@ use std::fmt;
 use store::Reply;
 
 // Not an Option of a reply: it is written, and `ok` is an answer too. B is what bytes are given in.
-#[derive(Debug, PartialEq, Eq, Drop)]
+#[derive(Clone, Debug, PartialEq, Eq, Drop)]
 pub enum Answer<B> {
     Done,
     Reply(Reply),

@@ -1,10 +1,10 @@
 // The statements of a script, and how words make one.
 #![tactic(auto, using(crate::proofs::Texts::length_texts, crate::proofs::Texts::text_at))]
 
-ghost use Rattle.std.specs.Prelude.{◌≡◌, IsOk, IsTrue};
+ghost use Rattle.std.specs.Prelude.{◌≡◌, ◌∷◌, IsOk, IsTrue};
 ghost use Rattle.script.specs.Failure.{Gives, ran_out};
 ghost use Rattle.script.specs.Line.{texts};
-ghost use Rattle.script.specs.Statement.{statement_seen, read_statement, half_of, kind_of, size_of, part_of, single_statement, pair_statement, layout_statement, memory_statement, damage_statement, raw_statement, count_statement, fetch_statement, put_statement, put_half_statement, install_statement, plain_statement, named_statement, statement_of};
+ghost use Rattle.script.specs.Statement.{statement_seen, read_statement, half_of, kind_of, size_of, part_of, single_statement, pair_statement, layout_statement, memory_statement, damage_statement, raw_statement, count_statement, fetch_statement, put_statement, put_half_statement, install_statement, plain_statement, named_statement, carries_bytes, statement_of};
 
 use crate::call;
 use crate::failure::Failure;
@@ -19,7 +19,7 @@ use store::{CellAddress, Half, Operation};
 const MOST_NUMBERS: u32 = 262_144;
 
 // B is what bytes are given in.
-#[derive(Debug, PartialEq, Eq, Drop)]
+#[derive(Clone, Debug, PartialEq, Eq, Drop)]
 pub enum Statement<B> {
     // makes the memories
     Memory(Layout),
@@ -236,6 +236,7 @@ fn read_named(
 ) -> Result<Statement<Vec<u8>>, Failure<Reason>>
     ensures value { Gives statement_seen result (named_statement name.now (texts args.now)) }
     ensures out_of_memory { IsTrue (ran_out result) → IsOk (named_statement name.now (texts args.now)) }
+    ensures bytes { IsTrue (ran_out result) → IsTrue (carries_bytes (name.now ∷ texts args.now)) }
 {
     if name == b"save".as_slice() {
         Ok(Statement::Call(call::save(heap, args)?))
@@ -251,6 +252,7 @@ fn read_named(
 pub fn read_statement(heap: Global, words: &[&[u8]]) -> Result<Statement<Vec<u8>>, Failure<Reason>>
     ensures value { Gives statement_seen result (statement_of (texts words.now)) }
     ensures out_of_memory { IsTrue (ran_out result) → IsOk (statement_of (texts words.now)) }
+    ensures bytes { IsTrue (ran_out result) → IsTrue (carries_bytes (texts words.now)) }
 {
     let [name, args @ ..] = words else {
         return Err(Reason::WordCount.into());
