@@ -26,7 +26,7 @@ fn word_len(line: &[u8]) -> usize
     line.len()
 }
 
-// The words, as parts of the line. By a loop, which looks at each byte once: to find the `#` first, then split at each space and pass over empty parts, took twice as long where there are many spaces.
+// The words, as parts of the line. By a loop over words, and one over the bytes of each: to find the `#` first, then split at each space and pass over empty parts, took twice as long where there are many spaces.
 pub fn split_words(heap: Global, line: &[u8]) -> Result<Vec<&[u8]>, AllocError>
     ensures words { IfOk result (λ v. texts v.items ≡ words_of line.now) }
     ensures plain { IfOk result (λ v. AllByRecursion Word (texts v.items)) }

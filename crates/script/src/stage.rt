@@ -3,7 +3,7 @@ ghost use Rattle.std.specs.Prelude.{◌≡◌, if◌then◌else◌, IsTrue, Ok, 
 ghost use Rattle.script.specs.declared.answer.Answer.TheVariants.{Done};
 ghost use Rattle.script.specs.declared.reason.Reason.TheVariants.{OutOfRange};
 ghost use Rattle.script.specs.Failure.{Gives, ran_out};
-ghost use Rattle.engine.specs.Installation.{made};
+ghost use Rattle.engine.specs.Installation.{Installation, made};
 ghost use Rattle.memories.specs.Any.{Memories, row_of};
 ghost use Rattle.memories.specs.Setup.{can_damage, damaged};
 ghost use Rattle.script.specs.Session.{nothing, with_memories, installed, answered, left, answered_before, left_before, answered_in, left_of};
@@ -46,7 +46,7 @@ impl Stage {
                 Statement::Install => self.install(),
                 Statement::Call(_) => Err(Reason::NoInstallation.into()),
             },
-            Stage::Installed(installation) => call(installation, statement),
+            Stage::Installed(installation) => perform_call(installation, statement),
         }
     }
 
@@ -61,10 +61,12 @@ impl Stage {
         answer
     }
 
-    // Makes an installation over the memories, if there are any.
+    // Makes an installation over the memories; another stage stays.
     fn install(&mut self) -> Outcome
         ensures answer { result ≡ Ok Done }
         ensures after { (ms : Memories) → state_of self.old ≡ with_memories ms → state_of self.new ≡ installed (made (row_of ms)) }
+        ensures stays_empty { state_of self.old ≡ nothing → state_of self.new ≡ nothing }
+        ensures stays_installed { (i : Installation) → state_of self.old ≡ installed i → state_of self.new ≡ installed i }
     {
         *self = match mem::replace(self, Stage::Nothing) {
             Stage::Memories(setup) => Stage::Installed(AnyInstallation::over(setup)),
@@ -92,7 +94,7 @@ fn after_nothing(heap: Global, statement: Statement<Vec<u8>>) -> (Stage, Outcome
     }
 }
 
-// Damages the memories.
+// Damages a memory, if it has such a number.
 fn damage(setup: &mut Setup, side: Side, index: u32, value: u32) -> Outcome
     ensures answer { Gives answer_seen result (if can_damage setup.old side index value then Ok Done else Err OutOfRange) }
     ensures out_of_memory { ran_out result ≡ false }
@@ -105,7 +107,7 @@ fn damage(setup: &mut Setup, side: Side, index: u32, value: u32) -> Outcome
 }
 
 // Once there is an installation, only calls can be done.
-fn call(installation: &mut AnyInstallation, statement: Statement<Vec<u8>>) -> Outcome
+fn perform_call(installation: &mut AnyInstallation, statement: Statement<Vec<u8>>) -> Outcome
     ensures answer { Gives answer_seen result (answered_in (installation_of installation.old) (statement_seen statement)) }
     ensures out_of_memory { ran_out result ≡ false }
     ensures after { installation_of installation.new ≡ left_of (installation_of installation.old) (statement_seen statement) }
