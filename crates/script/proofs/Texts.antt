@@ -1,7 +1,7 @@
 -- The laws of what slices hold: how many there are, each by its place, and one more.
-use Rattle.std.proofs.Common.{◌≡◌, ℕ, ◌-◌, ◌<◌, ◌≤◌, List, [], ◌∷◌, ◌++◌, length, get_or, take, drop, sym, refl, arith, Bor}
+use Rattle.std.proofs.Common.{◌≡◌, ℕ, ◌-◌, ◌<◌, List, [], ◌∷◌, ◌++◌, length, get_or, take, drop, sym, refl, arith, Bor}
 use lib.ListN.{length-map}
-use Rattle.std.proofs.lemmas.List.{get_or-map, get_or_past, map_push, take_rest}
+use Rattle.std.proofs.lemmas.List.{get_or-map, map_push, take_rest}
 use Rattle.script.specs.Line.{texts}
 use Rattle.script.specs.Parts.{nth_word}
 
@@ -31,6 +31,3 @@ length_texts ws = length-map ws (λ t. t.now)
 pub text_at : (ws : List (Bor (List ℕ))) (i : ℕ) (d : Bor (List ℕ)) → i < length ws → (get_or ws i d).now ≡ nth_word (texts ws) i
 unfolding texts
 text_at ws i d within = sym (get_or-map (λ t. t.now) ws i d [] within)
-
-pub text_past : (ws : List (Bor (List ℕ))) (i : ℕ) → length ws ≤ i → nth_word (texts ws) i ≡ []
-text_past ws i past = get_or_past (texts ws) i [] (omega (arith, length_texts ws))

@@ -154,7 +154,7 @@ named_statement name args =
     else (if bytes_eq name (codes "restore") then call_statement (restore_call args)
     else plain_statement name args)
 
--- Do the words of a line, the name first, make a statement that carries bytes? Only such a one needs memory.
+-- Is the name before the words of a line that of a statement with bytes? Only such a statement needs memory.
 abbrev pub carries_bytes : List (List ℕ) → Bool
 carries_bytes [] = false
 carries_bytes (name ∷ args) = bytes_eq name (codes "save") || bytes_eq name (codes "restore")

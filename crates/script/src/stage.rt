@@ -50,15 +50,23 @@ impl Stage {
         }
     }
 
-    // Puts in its place what a statement makes of no memory.
+    // Before there is a memory, only `memory` can be done.
     fn begin(&mut self, heap: Global, statement: Statement<Vec<u8>>) -> Outcome
+        requires { state_of self.old ≡ nothing }
         ensures answer { Gives answer_seen result (answered_before (statement_seen statement)) }
         ensures out_of_memory { IsTrue (ran_out result) → answered_before (statement_seen statement) ≡ Ok Done }
         ensures after { state_of self.new ≡ (if ran_out result then nothing else left_before (statement_seen statement)) }
     {
-        let (stage, answer) = after_nothing(heap, statement);
-        *self = stage;
-        answer
+        match statement {
+            Statement::Memory(layout) => {
+                *self = Stage::Memories(Setup::new(heap, layout)?);
+                Ok(Answer::Done)
+            }
+            Statement::Raw { .. } | Statement::Operation(_) | Statement::Install => {
+                Err(Reason::NoMemory.into())
+            }
+            Statement::Call(_) => Err(Reason::NoInstallation.into()),
+        }
     }
 
     // Makes an installation over the memories; another stage stays.
@@ -73,24 +81,6 @@ impl Stage {
             stage => stage,
         };
         Ok(Answer::Done)
-    }
-}
-
-// Before there is a memory, only `memory` can be done.
-fn after_nothing(heap: Global, statement: Statement<Vec<u8>>) -> (Stage, Outcome)
-    ensures answer { Gives answer_seen result.1 (answered_before (statement_seen statement)) }
-    ensures out_of_memory { IsTrue (ran_out result.1) → answered_before (statement_seen statement) ≡ Ok Done }
-    ensures after { state_of result.0 ≡ (if ran_out result.1 then nothing else left_before (statement_seen statement)) }
-{
-    match statement {
-        Statement::Memory(layout) => match Setup::new(heap, layout) {
-            Ok(setup) => (Stage::Memories(setup), Ok(Answer::Done)),
-            Err(error) => (Stage::Nothing, Err(error.into())),
-        },
-        Statement::Raw { .. } | Statement::Operation(_) | Statement::Install => {
-            (Stage::Nothing, Err(Reason::NoMemory.into()))
-        }
-        Statement::Call(_) => (Stage::Nothing, Err(Reason::NoInstallation.into())),
     }
 }
 
